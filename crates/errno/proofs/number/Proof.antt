@@ -1,0 +1,26 @@
+-- `number` meets its contract, by the table's rule.
+-- Assumes nothing.
+use native.Mathlib.Omega.{arith}
+use mathlib.Core.Path.{ap, _∙_}
+use lib.ListN.{getD}
+use borrow.Author.Needs.{needs}
+use Rattle.errno.specs.Errno.{numberOf, nameOf, cases}
+use Rattle.errno.proofs.Table.{Entry, entryOf, right, row-below}
+use Rattle.errno.proofs.number.Statement.{statement}
+use Rattle.errno.proofs.number.Tie as tie
+
+row-requires : tie.Need-row-requires
+row-requires c κs = search needs
+
+mul-result : tie.Need-mul-result
+mul-result c = omega (arith, c .row .ensures, row-below (c .before .args .e))
+
+element-copy-out-result : tie.Need-element-copy-out-result
+element-copy-out-result c = omega (arith, c .row .ensures, row-below (c .before .args .e))
+
+returns : tie.Need-returns
+unfolding numberOf nameOf cases entryOf
+returns c = rw (c .row .ensures) (ap (λ (x : Entry). x .number) (right (c .before .args .e) _))
+
+pub number-spec : {M : Type 1} → statement M
+number-spec = tie.close (tie.spec row-requires mul-result element-copy-out-result returns)

@@ -1,0 +1,43 @@
+-- 01's table of refusals: the number and the name of each of the eight cases.
+-- Assumes nothing.
+use Prim.Native.Nat.{ℕ}
+use mathlib.Core.List.{List, [], _∷_}
+use Rattle.errno.specs.declared.Errno.{Errno}
+use Rattle.errno.specs.declared.Errno.the-variants.{Enoent, Ebusy, Eexist, Enodev, Einval, Enospc, Eaddrinuse, Eaddrnotavail}
+
+-- the errno value of each case
+unfoldable pub numberOf : Errno → ℕ
+numberOf Enoent = 2
+numberOf Ebusy = 16
+numberOf Eexist = 17
+numberOf Enodev = 19
+numberOf Einval = 22
+numberOf Enospc = 28
+numberOf Eaddrinuse = 98
+numberOf Eaddrnotavail = 99
+
+-- the name of each case, in ASCII
+unfoldable pub nameOf : Errno → List ℕ
+nameOf Enoent = 69 ∷ 78 ∷ 79 ∷ 69 ∷ 78 ∷ 84 ∷ []
+nameOf Ebusy = 69 ∷ 66 ∷ 85 ∷ 83 ∷ 89 ∷ []
+nameOf Eexist = 69 ∷ 69 ∷ 88 ∷ 73 ∷ 83 ∷ 84 ∷ []
+nameOf Enodev = 69 ∷ 78 ∷ 79 ∷ 68 ∷ 69 ∷ 86 ∷ []
+nameOf Einval = 69 ∷ 73 ∷ 78 ∷ 86 ∷ 65 ∷ 76 ∷ []
+nameOf Enospc = 69 ∷ 78 ∷ 79 ∷ 83 ∷ 80 ∷ 67 ∷ []
+nameOf Eaddrinuse = 69 ∷ 65 ∷ 68 ∷ 68 ∷ 82 ∷ 73 ∷ 78 ∷ 85 ∷ 83 ∷ 69 ∷ []
+nameOf Eaddrnotavail = 69 ∷ 65 ∷ 68 ∷ 68 ∷ 82 ∷ 78 ∷ 79 ∷ 84 ∷ 65 ∷ 86 ∷ 65 ∷ 73 ∷ 76 ∷ []
+
+-- the eight cases by ascending number, as the table has them
+unfoldable pub cases : List Errno
+cases = Enoent ∷ Ebusy ∷ Eexist ∷ Enodev ∷ Einval ∷ Enospc ∷ Eaddrinuse ∷ Eaddrnotavail ∷ []
+
+-- a case's row in the table
+abbrev pub rowOf : Errno → ℕ
+rowOf Enoent = 0
+rowOf Ebusy = 1
+rowOf Eexist = 2
+rowOf Enodev = 3
+rowOf Einval = 4
+rowOf Enospc = 5
+rowOf Eaddrinuse = 6
+rowOf Eaddrnotavail = 7
