@@ -1,0 +1,137 @@
+// A mask of 256 bits as one value, and the two kinds of number that name its bits.
+//
+// Rests on nothing. Bit 0 is the most significant bit of the first word.
+ghost use mathlib.Core.Path.{_≡_};
+ghost use Rattle.mask.specs.Bits.{bits, noBits, allBits, bitsAbove, included, excluded, both, either, someBelow, countBelow};
+
+// An adapter number. It is a kind of its own, so that no call can take a domain number for it.
+pub struct Apid(pub u8);
+
+// A usage or control domain number.
+pub struct Apqi(pub u8);
+
+pub struct Mask {
+    pub words: [u64; 4],
+}
+
+impl Mask {
+    pub fn empty() -> Mask
+        ensures { λ r. ⌜ bits r ≡ noBits ⌝ }
+    {
+        Mask { words: [0u64; 4] }
+    }
+
+    pub fn full() -> Mask
+        ensures { λ r. ⌜ bits r ≡ allBits ⌝ }
+    {
+        Mask {
+            words: [u64::MAX; 4],
+        }
+    }
+
+    // The bits above a limit.
+    pub fn beyond(limit: u8) -> Mask
+        ensures { λ r. ⌜ bits r ≡ bitsAbove limit ⌝ }
+    {
+        let k = limit / 64;
+        let part = (1u64 << (63 - (limit % 64) as u32)) - 1;
+        Mask {
+            words: [
+                beyond_word(k, 0, part),
+                beyond_word(k, 1, part),
+                beyond_word(k, 2, part),
+                beyond_word(k, 3, part),
+            ],
+        }
+    }
+
+    pub fn has(self, i: u8) -> bool
+        ensures { λ r. ⌜ r ≡ bits self i ⌝ }
+    {
+        let w = self.words;
+        let k = (i / 64) as usize;
+        let x = w[k];
+        (x >> (63 - (i % 64) as u32)) % 2 == 1
+    }
+
+    pub fn with(self, i: u8) -> Mask
+        ensures { λ r. ⌜ bits r ≡ included i (bits self) ⌝ }
+    {
+        let mut w = self.words;
+        let k = (i / 64) as usize;
+        w[k] = w[k] | (1u64 << (63 - (i % 64) as u32));
+        Mask { words: w }
+    }
+
+    pub fn without(self, i: u8) -> Mask
+        ensures { λ r. ⌜ bits r ≡ excluded i (bits self) ⌝ }
+    {
+        let mut w = self.words;
+        let k = (i / 64) as usize;
+        let x = w[k];
+        w[k] = x ^ (x & (1u64 << (63 - (i % 64) as u32)));
+        Mask { words: w }
+    }
+
+    pub fn and(self, other: Mask) -> Mask
+        ensures { λ r. ⌜ bits r ≡ both (bits self) (bits other) ⌝ }
+    {
+        let x = self.words;
+        let y = other.words;
+        Mask {
+            words: [x[0] & y[0], x[1] & y[1], x[2] & y[2], x[3] & y[3]],
+        }
+    }
+
+    pub fn or(self, other: Mask) -> Mask
+        ensures { λ r. ⌜ bits r ≡ either (bits self) (bits other) ⌝ }
+    {
+        let x = self.words;
+        let y = other.words;
+        Mask {
+            words: [x[0] | y[0], x[1] | y[1], x[2] | y[2], x[3] | y[3]],
+        }
+    }
+
+    // Whether any bit is set.
+    pub fn any(self) -> bool
+        ensures { λ r. ⌜ r ≡ someBelow 256 (bits self) ⌝ }
+    {
+        let x = self.words;
+        (x[0] | x[1] | x[2] | x[3]) != 0
+    }
+
+    // Whether some bit is in both.
+    pub fn meets(self, other: Mask) -> bool
+        ensures { λ r. ⌜ r ≡ someBelow 256 (both (bits self) (bits other)) ⌝ }
+    {
+        self.and(other).any()
+    }
+
+    // Whether a bit above the limit is set.
+    pub fn exceeds(self, limit: u8) -> bool
+        ensures { λ r. ⌜ r ≡ someBelow 256 (both (bits self) (bitsAbove limit)) ⌝ }
+    {
+        self.meets(Mask::beyond(limit))
+    }
+
+    // How many bits are set.
+    pub fn count(self) -> u32
+        ensures { λ r. ⌜ r ≡ countBelow 256 (bits self) ⌝ }
+    {
+        let x = self.words;
+        u64::count_ones(x[0])
+            + u64::count_ones(x[1])
+            + u64::count_ones(x[2])
+            + u64::count_ones(x[3])
+    }
+}
+
+// Word j of the bits above a limit that lies in word k, where part is that word.
+fn beyond_word(k: u8, j: u8, part: u64) -> u64 {
+    if k < j {
+        u64::MAX
+    } else {
+        if k == j { part } else { 0 }
+    }
+}

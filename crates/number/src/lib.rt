@@ -1,0 +1,122 @@
+// Reads the text of a number: decimal, hex after 0x, or octal after a leading 0.
+//
+// Rests on errno.
+ghost use mathlib.Core.Path.{_≡_};
+ghost use lib.ListN.{length, drop};
+ghost use Rattle.number.specs.Text.{outcome, digitOf, body, startsHex, digits, atMost, numberRule, numberText};
+
+// What reading a text finds.
+pub enum Number {
+    Value(u16),
+    Bad,
+}
+
+// A number as a user writes it, with or without a final newline.
+pub fn parse(s: &[u8]) -> Number
+    ensures { λ r. ⌜ outcome r ≡ numberText (now (s .entry)) ⌝ }
+{
+    let n = body_len(s);
+    parse_at_most(&s[..n], 65535)
+}
+
+// A number of at most limit, with no newline.
+pub fn parse_at_most(s: &[u8], limit: u16) -> Number
+    ensures { λ r. ⌜ outcome r ≡ numberRule limit (now (s .entry)) ⌝ }
+{
+    if 16 < s.len() {
+        return Number::Bad;
+    }
+    if starts_hex(s) {
+        return digits_from(s, 2, 16, limit);
+    }
+    if first(s) == b'0' {
+        return digits_from(s, 0, 8, limit);
+    }
+    digits_from(s, 0, 10, limit)
+}
+
+// The length of a text without one final newline.
+pub fn body_len(s: &[u8]) -> usize
+    ensures { λ r. ⌜ r ≡ length (body (now (s .entry))) ⌝ }
+{
+    let n = s.len();
+    if n == 0 {
+        return 0;
+    }
+    if s[n - 1] == b'\n' { n - 1 } else { n }
+}
+
+pub fn starts_hex(s: &[u8]) -> bool
+    ensures { λ r. ⌜ r ≡ startsHex (now (s .entry)) ⌝ }
+{
+    if s.len() < 2 {
+        return false;
+    }
+    if s[0] != b'0' {
+        return false;
+    }
+    s[1] == b'x'
+}
+
+// The value of a byte as a digit, or 16 where it is none.
+pub fn digit_of(c: u8) -> u8
+    ensures { λ r. ⌜ r ≡ digitOf c ⌝ }
+{
+    if b'0' <= c {
+        if c <= b'9' {
+            return c - b'0';
+        }
+    }
+    if b'a' <= c {
+        if c <= b'f' {
+            return c - b'a' + 10;
+        }
+    }
+    if b'A' <= c {
+        if c <= b'F' {
+            return c - b'A' + 10;
+        }
+    }
+    16
+}
+
+// The first byte, or 0 where there is none.
+fn first(s: &[u8]) -> u8 {
+    if s.len() == 0 { 0 } else { s[0] }
+}
+
+// The digits of s from an index on. The value never passes the limit, so it never wraps.
+fn digits_from(s: &[u8], from: usize, base: u8, limit: u16) -> Number
+    ensures { λ r. ⌜ outcome r ≡ atMost limit (digits base (drop from (now (s .entry)))) ⌝ }
+{
+    if s.len() <= from {
+        return Number::Bad;
+    }
+    let mut v: u16 = 0;
+    let mut i = from;
+    while i < s.len() {
+        match one_more(v, base, s[i], limit) {
+            Number::Value(next) => {
+                v = next;
+            }
+            Number::Bad => {
+                return Number::Bad;
+            }
+        }
+        i += 1;
+    }
+    Number::Value(v)
+}
+
+// The value after one more digit.
+fn one_more(v: u16, base: u8, c: u8, limit: u16) -> Number {
+    let d = digit_of(c);
+    if base <= d {
+        return Number::Bad;
+    }
+    let next = (v as u32) * (base as u32) + (d as u32);
+    if (limit as u32) < next {
+        return Number::Bad;
+    }
+    Number::Value((next % 65536) as u16)
+}
