@@ -1,0 +1,109 @@
+-- Where a queue belongs, moves, the moves remaining, and guest masks (01, "Where a queue belongs" and "Guest masks").
+-- Assumes nothing.
+use Prim.Native.Nat.{ℕ, zero, suc, _+_, _*_}
+use mathlib.Core.Bool.{Bool, true, false, cond, not, _&&_}
+use lib.Dec.{eqb, leb}
+use Rattle.mask.specs.Bits.{Bits, someBelow, both}
+use Rattle.rules.specs.declared.Driver.{Driver}
+use Rattle.rules.specs.declared.Driver.the-variants.{Unbound, Host, Passthrough}
+use Rattle.rules.specs.declared.Moved.{Moved}
+use Rattle.rules.specs.declared.Moved.the-variants.{Idle, Released, BoundHost, BoundPassthrough}
+use Rattle.rules.specs.State.{State, HostMasks, Config, Device, inProduct, apid, apqi, queues}
+
+-- reserved for the host: its APID is in apmask and its APQI is in aqmask
+unfoldable pub reserved : HostMasks → Bits
+reserved h = inProduct (h .apmask) (h .aqmask)
+
+-- its adapter and its usage domain are configured
+unfoldable pub configured : Config → Bits
+configured c = inProduct (c .adapters) (c .domains)
+
+-- the driver that a queue should have
+unfoldable pub targetOf : HostMasks → Config → ℕ → Driver
+targetOf h c q = cond (configured c q) (cond (reserved h q) Host (cond (leb 10 (c .types (apid q))) Passthrough Unbound)) Unbound
+
+-- the same of a state
+abbrev pub target : State → ℕ → Driver
+target s = targetOf (s .host) (s .config)
+
+-- what a move does, by the queue's driver and its target
+unfoldable pub moved : Driver → Driver → Moved
+moved Unbound Unbound = Idle
+moved Unbound Host = BoundHost
+moved Unbound Passthrough = BoundPassthrough
+moved Host Unbound = Released
+moved Host Host = Idle
+moved Host Passthrough = Released
+moved Passthrough Unbound = Released
+moved Passthrough Host = Released
+moved Passthrough Passthrough = Idle
+
+-- the driver after a move that found the driver d
+unfoldable pub after : Driver → Moved → Driver
+after d Idle = d
+after d Released = Unbound
+after d BoundHost = Host
+after d BoundPassthrough = Passthrough
+
+-- the moves that a queue still needs, by its driver and its target
+unfoldable pub due : Driver → Driver → ℕ
+due Unbound Unbound = 0
+due Unbound Host = 1
+due Unbound Passthrough = 1
+due Host Unbound = 1
+due Host Host = 0
+due Host Passthrough = 2
+due Passthrough Unbound = 1
+due Passthrough Host = 2
+due Passthrough Passthrough = 0
+
+-- f 0 + .. + f (n - 1)
+unfoldable pub sumBelow : ℕ → (ℕ → ℕ) → ℕ
+sumBelow zero f = 0
+sumBelow (suc n) f = sumBelow n f + f n
+
+-- the moves remaining
+unfoldable pub remaining : State → ℕ
+remaining s = sumBelow queues (λ q. due (s .driver q) (target s q))
+
+-- the drivers with queue n given another
+unfoldable pub rebound : ℕ → Driver → (ℕ → Driver) → ℕ → Driver
+rebound n d ds q = cond (eqb q n) d (ds q)
+
+-- what a move of queue q answers
+unfoldable pub moveAnswer : ℕ → State → Moved
+moveAnswer q s = moved (s .driver q) (target s q)
+
+-- the state after a move of queue q
+unfoldable pub move : ℕ → State → State
+move q s =
+    record {
+      limits = s .limits;
+      host = s .host;
+      config = s .config;
+      device = s .device;
+      driver = rebound q (after (s .driver q) (moveAnswer q s)) (s .driver);
+    }
+
+-- bound to passthrough
+unfoldable pub passed : Driver → Bool
+passed Unbound = false
+passed Host = false
+passed Passthrough = true
+
+-- guest masks: the domains
+unfoldable pub guestDomains : State → Device → Bits
+guestDomains s v = both (v .domains) (s .config .domains)
+
+-- guest masks: the adapters; one domain whose queue is not passed through drops the adapter
+unfoldable pub guestAdapters : State → Device → Bits
+guestAdapters s v a =
+    v .adapters a && s .config .adapters a && not (someBelow 256 (λ d. guestDomains s v d && not (passed (s .driver (a * 256 + d)))))
+
+-- guest masks: the control domains
+unfoldable pub guestControls : State → Device → Bits
+guestControls s v = both (v .controls) (s .config .controls)
+
+-- a guest can use a queue
+unfoldable pub usable : State → Device → Bits
+usable s v q = v .isOpen && inProduct (guestAdapters s v) (guestDomains s v) q

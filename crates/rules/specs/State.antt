@@ -1,0 +1,79 @@
+-- What the service keeps (01, "The desk's record"), as sets of numbers and functions of numbers.
+-- A queue is named by APID x 256 + APQI, so ascending queues are by ascending APID, then APQI.
+-- Assumes nothing.
+use Prim.Native.Nat.{ℕ, _/_, _%_}
+use mathlib.Core.Bool.{Bool, true, false, cond, _&&_}
+use lib.Dec.{eqb}
+use Rattle.mask.specs.Bits.{Bits, noBits, allBits}
+use Rattle.rules.specs.declared.Driver.{Driver}
+use Rattle.rules.specs.declared.Driver.the-variants.{Unbound, Host, Passthrough}
+use Rattle.rules.specs.declared.Id.{Id}
+
+-- the number of places for mediated devices
+abbrev pub places : ℕ
+places = 8
+
+-- the number of queues
+abbrev pub queues : ℕ
+queues = 65536
+
+-- highest adapter and highest domain number
+pub record Limits : Type 0 where
+  pub adapter : ℕ
+  pub domain : ℕ
+
+-- the host's masks
+pub record HostMasks : Type 0 where
+  pub apmask : Bits
+  pub aqmask : Bits
+
+-- the partition's configuration
+pub record Config : Type 0 where
+  pub adapters : Bits
+  pub domains : Bits
+  pub controls : Bits
+  pub types : ℕ → ℕ
+
+-- a place for a mediated device
+pub record Device : Type 0 where
+  pub present : Bool
+  pub isOpen : Bool
+  pub id : Id
+  pub adapters : Bits
+  pub domains : Bits
+  pub controls : Bits
+
+-- the whole state
+pub record State : Type 0 where
+  pub limits : Limits
+  pub host : HostMasks
+  pub config : Config
+  pub device : ℕ → Device
+  pub driver : ℕ → Driver
+
+-- the queue's APID
+abbrev pub apid : ℕ → ℕ
+apid q = q / 256
+
+-- the queue's APQI
+abbrev pub apqi : ℕ → ℕ
+apqi q = q % 256
+
+-- whether a queue is in the product of some adapters and some domains
+unfoldable pub inProduct : Bits → Bits → Bits
+inProduct adapters domains q = adapters (apid q) && domains (apqi q)
+
+-- an empty place
+unfoldable pub noDevice : Device
+noDevice = record { present = false; isOpen = false; id = record { hi = 0; lo = 0 }; adapters = noBits; domains = noBits; controls = noBits }
+
+-- 01's fresh desk
+unfoldable pub fresh : Limits → State
+fresh l =
+    record {
+      limits = l;
+      host = record { apmask = allBits; aqmask = allBits };
+      config = record { adapters = noBits; domains = noBits; controls = noBits; types = λ a. 0 };
+      device = λ p. noDevice;
+      driver = λ q. Unbound;
+    }

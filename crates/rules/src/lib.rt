@@ -1,0 +1,47 @@
+// The types of the assignment service. Its rules are the definitions in specs/.
+//
+// Rests on errno and mask.
+use errno::Errno;
+use mask::Mask;
+
+// Who drives a queue: nobody, the host's own driver, or the driver that passes it through to guests.
+pub enum Driver {
+    Unbound,
+    Host,
+    Passthrough,
+}
+
+// What a move of one queue did.
+pub enum Moved {
+    Idle,
+    Released,
+    BoundHost,
+    BoundPassthrough,
+}
+
+// The three kinds of number that are assigned to a mediated device.
+pub enum Kind {
+    Adapter,
+    Domain,
+    Control,
+}
+
+// What a command answers.
+pub enum Answer {
+    Done,
+    Refused(Errno),
+}
+
+// The 16 bytes of a mediated device's id, as two big-endian numbers.
+pub struct Id {
+    pub hi: u64,
+    pub lo: u64,
+}
+
+// What the partition is given: adapters, usage domains, control domains, and a hardware type for each adapter.
+pub struct Configuration {
+    pub adapters: Mask,
+    pub domains: Mask,
+    pub controls: Mask,
+    pub types: [u8; 256],
+}
