@@ -1,14 +1,15 @@
 -- Laws of the text of a number: digits, the limit, the body.
 -- Assumes nothing.
-use Prim.Native.Nat.{ℕ, _+_, _-_, _*_, _<_, _≤_}
+use Prim.Native.Nat.{ℕ, suc, _+_, _-_, _*_, _<_, _≤_}
 use native.Mathlib.Nat.{le-mul-of-pos-right}
+use native.Mathlib.Numerals.{add-one}
 use native.Mathlib.Omega.{arith}
 use mathlib.Core.Bool.{Bool, true, false, cond, _&&_}
 use mathlib.Core.List.{List, [], _∷_}
 use mathlib.Core.Logic.{_⊎_, inl, inr}
 use mathlib.Core.Path.{_≡_, refl, sym, _∙_}
-use lib.ListN.{length, getD, take}
-use lib.Seq.{length-take-le, take-length}
+use lib.ListN.{length, getD, take, drop}
+use lib.Seq.{length-take-le, take-length, drop-cons}
 use lib.Dec.{ltb, leb, eqb}
 use borrow.Author.Tests.{ltb-true, leb-true, leb-false, lt-leb}
 use Rattle.errno.specs.Outcome.{Outcome, granted, refused}
@@ -52,14 +53,15 @@ within limit (granted w) {v} e = step (leb w limit) refl e
     step false h e = let z : _≡_ {A = ℕ} 0 1 = cc in omega arith
 within limit (refused n) {v} e = let z : _≡_ {A = ℕ} 0 1 = cc in omega arith
 
+-- the same behind a test
+pub within-if : (b : Bool) (limit : ℕ) (o : Outcome ℕ) {v : ℕ} → cond b (atMost limit o) (refused 22) ≡ granted v → v ≤ limit
+within-if true limit o e = within limit o e
+within-if false limit o e = let z : _≡_ {A = ℕ} 0 1 = cc in omega arith
+
 -- a number that is read is at most the limit
 pub rule-le : (limit : ℕ) (s : List ℕ) {v : ℕ} → numberRule limit s ≡ granted v → v ≤ limit
 unfolding numberRule
-rule-le limit s {v} e = step (leb (length s) 16) e
-  where
-    step : (b : Bool) → cond b (atMost limit (anyBase s)) (refused 22) ≡ granted v → v ≤ limit
-    step true e = within limit (anyBase s) e
-    step false e = let z : _≡_ {A = ℕ} 0 1 = cc in omega arith
+rule-le limit s e = within-if (leb (length s) 16) limit (anyBase s) e
 
 -- a value above the limit is bad whatever digits follow
 pub above : (limit base v : ℕ) (cs : List ℕ) → limit < v → atMost limit (digitsAfter base v cs) ≡ refused 22
@@ -80,6 +82,9 @@ above limit base v (c ∷ cs) h = step (ltb (digitOf c) base) refl (above limit 
 abbrev pub oneMore : ℕ → ℕ → ℕ → ℕ → Outcome ℕ
 oneMore limit base v c = cond (ltb (digitOf c) base) (atMost limit (granted (v * base + digitOf c))) (refused 22)
 
+pub one-le : (limit base v c : ℕ) {w : ℕ} → oneMore limit base v c ≡ granted w → w ≤ limit
+one-le limit base v c e = within-if (ltb (digitOf c) base) limit (granted (v * base + digitOf c)) e
+
 -- the digits c ∷ cs: first c, then cs
 unfoldable pub andDigits : ℕ → ℕ → List ℕ → Outcome ℕ → Outcome ℕ
 andDigits limit base cs (granted v) = atMost limit (digitsAfter base v cs)
@@ -98,6 +103,11 @@ turn limit base v c cs = step (ltb (digitOf c) base)
     step : (b : Bool) → atMost limit (cond b (digitsAfter base next cs) (refused 22)) ≡ andDigits limit base cs (cond b (atMost limit (granted next)) (refused 22))
     step true = small (leb next limit) refl
     step false = refl
+
+-- one digit at a time, over a list from an index on
+pub turn-at : (limit base v i : ℕ) (s : List ℕ) → i < length s
+    → atMost limit (digitsAfter base v (drop i s)) ≡ andDigits limit base (drop (i + 1) s) (oneMore limit base v (getD s i 0))
+turn-at limit base v i s h = rw (add-one, drop-cons s i 0 h) (turn limit base v (getD s i 0) (drop (suc i) s))
 
 -- the body is the start of the text
 pub body-take : (s : List ℕ) → take (length (body s)) s ≡ body s

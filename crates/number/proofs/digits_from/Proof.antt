@@ -1,10 +1,14 @@
-use Prim.Native.Nat.{_≤_, _-_}
+use Prim.Native.Nat.{_+_, _-_, _≤_}
 use native.Mathlib.Omega.{arith}
-use mathlib.Core.Path.{_≡_, sym}
-use lib.ListN.{length, drop}
+use mathlib.Core.Path.{_≡_, sym, ap, _∙_}
+use lib.ListN.{length, getD, drop, drop-of-length-le}
 use lib.Seq.{drop-cons}
+use Rattle.errno.specs.Outcome.{granted, refused}
 use Rattle.number.specs.Text.{outcome, atMost, digits, digitsAfter}
-use Rattle.number.proofs.Laws.{turn, within}
+use Rattle.number.proofs.Laws.{oneMore, andDigits, one-le, turn-at}
+use denote.Ref.{now}
+use mathlib.Core.List.{[]}
+use borrow.Author.Tests.{le-leb}
 use borrow.Author.Needs.{needs}
 use Rattle.number.proofs.digits_from.Statement.{statement}
 use Rattle.number.proofs.digits_from.Tie as tie
@@ -21,11 +25,16 @@ abbrev μ-loop : tie.MeasureT-loop
 
 -- src/lib.rt:99:9
 returns : tie.Need-returns Inv-loop μ-loop
-returns c = ?
+unfolding outcome digits atMost
+returns c = rw (drop-of-length-le (now (c .before .before .args .s)) {i = c .before .before .args .from} (omega arith))
 
 -- src/lib.rt:103:5
 loop-holds : tie.Need-loop-holds Inv-loop μ-loop
-loop-holds c = ?
+unfolding digits
+loop-holds c =
+    (omega arith,
+    omega arith,
+    rw (drop-cons (now (c .before .before .args .s)) (c .before .before .args .from) 0 (omega arith)))
 
 -- src/lib.rt:104:33
 shared-slice-read-one-more : tie.Need-shared-slice-read-one-more Inv-loop μ-loop
@@ -45,7 +54,13 @@ enum-told c = search needs
 
 -- src/lib.rt:109:17
 returns-2 : tie.Need-returns-2 Inv-loop μ-loop
-returns-2 c = ?
+unfolding outcome andDigits
+returns-2 c =
+    let a = c .before .before .before .before .before .before .before .before .args in
+    let l = c .before .before .before .before .before .loop in
+    let got : oneMore (a .limit) (a .base) (l .v) (getD (now (a .s)) (l .i) 0) ≡ refused 22 =
+        sym (c .before .before .one-more .ensures) ∙ ap outcome (c .enum-told .given .1) in
+    sym (l .inv .2 ∙ turn-at (a .limit) (a .base) (l .v) (l .i) (now (a .s)) (omega arith) ∙ ap (andDigits (a .limit) (a .base) (drop (l .i + 1) (now (a .s)))) got)
 
 -- src/lib.rt:112:9
 add-i : tie.Need-add-i Inv-loop μ-loop
@@ -53,15 +68,27 @@ add-i c = search needs
 
 -- src/lib.rt:103:5
 loop-less : tie.Need-loop-less Inv-loop μ-loop
-loop-less c = ?
+loop-less c = omega arith
 
 -- src/lib.rt:103:5
 loop-again : tie.Need-loop-again Inv-loop μ-loop
-loop-again c = ?
+unfolding outcome andDigits
+loop-again c =
+    let a = c .before .before .before .before .before .before .before .before .before .args in
+    let l = c .before .before .before .before .before .before .loop in
+    let got : oneMore (a .limit) (a .base) (l .v) (getD (now (a .s)) (l .i) 0) ≡ granted (c .before .next .given .0 .0) =
+        sym (c .before .before .before .one-more .ensures) ∙ ap outcome (c .before .next .given .1) in
+    (omega arith,
+    one-le (a .limit) (a .base) (l .v) (getD (now (a .s)) (l .i) 0) got,
+    l .inv .2 ∙ turn-at (a .limit) (a .base) (l .v) (l .i) (now (a .s)) (omega arith) ∙ ap (andDigits (a .limit) (a .base) (drop (l .i + 1) (now (a .s)))) got)
 
 -- src/lib.rt:95:1
 returns-3 : tie.Need-returns-3 Inv-loop μ-loop
-returns-3 c = ?
+unfolding outcome atMost digitsAfter
+returns-3 c =
+    let s = now (c .before .before .before .before .args .s) in
+    let p : drop (c .before .loop .i) s ≡ [] = drop-of-length-le s {i = c .before .loop .i} (omega arith) in
+    rw (c .before .loop .inv .2, p, le-leb (c .before .loop .v) (c .before .before .before .before .args .limit) (omega arith))
 
 pub digits-from-spec : {M : Type 1} → statement M
 digits-from-spec =
