@@ -7,24 +7,24 @@ use native.Mathlib.Omega.{arith}
 use mathlib.Core.Bool.{Bool, true, false, cond, _&&_}
 use mathlib.Core.List.{List, [], _∷_}
 use mathlib.Core.Logic.{_⊎_, inl, inr}
-use mathlib.Core.Path.{_≡_, refl, sym, _∙_}
+use mathlib.Core.Path.{_≡_, refl}
 use lib.ListN.{length, getD, take, drop}
 use lib.Seq.{length-take-le, take-length, drop-cons}
 use lib.Dec.{ltb, leb, eqb}
 use borrow.Author.Tests.{ltb-true, leb-true, leb-false, lt-leb}
 use Rattle.errno.specs.Outcome.{Outcome, granted, refused}
-use Rattle.number.specs.Text.{digitOf, body, digitsAfter, anyBase, atMost, numberRule, numberText}
+use Rattle.number.specs.Text.{digitOf, body, digitsAfter, anyBase, atMost, numberRule}
 
-both : (a b : Bool) → a && b ≡ true → (a ≡ true) × (b ≡ true)
-both true b e = (refl, e)
-both false b e = (e, cc)
+right : (a b : Bool) → a && b ≡ true → b ≡ true
+right true b e = e
+right false b e = cc
 
 cond-le : (b : Bool) (x : ℕ) {y n : ℕ} → (b ≡ true → x ≤ n) → y ≤ n → cond b x y ≤ n
 cond-le true x h k = h refl
 cond-le false x h k = k
 
 up-to : (a c z : ℕ) → leb a c && leb c z ≡ true → c ≤ z
-up-to a c z e = leb-true c z (both (leb a c) (leb c z) e .1)
+up-to a c z e = leb-true c z (right (leb a c) (leb c z) e)
 
 pub and-false : (b : Bool) → b && false ≡ false
 and-false true = refl
@@ -71,6 +71,7 @@ above limit base v (c ∷ cs) h = step (ltb (digitOf c) base) refl (above limit 
   where
     rest : Outcome ℕ
     rest = digitsAfter base (v * base + digitOf c) cs
+
     step : (b : Bool) → ltb (digitOf c) base ≡ b → (limit < v * base + digitOf c → atMost limit rest ≡ refused 22) → atMost limit (cond b rest (refused 22)) ≡ refused 22
     step true e next =
         let q : digitOf c < base = ltb-true (digitOf c) base e in
@@ -97,9 +98,11 @@ turn limit base v c cs = step (ltb (digitOf c) base)
   where
     next : ℕ
     next = v * base + digitOf c
+
     small : (b : Bool) → leb next limit ≡ b → atMost limit (digitsAfter base next cs) ≡ andDigits limit base cs (cond b (granted next) (refused 22))
     small true e = refl
     small false e = above limit base next cs (leb-false next limit e)
+
     step : (b : Bool) → atMost limit (cond b (digitsAfter base next cs) (refused 22)) ≡ andDigits limit base cs (cond b (atMost limit (granted next)) (refused 22))
     step true = small (leb next limit) refl
     step false = refl

@@ -1,38 +1,32 @@
+-- `body_len` meets its contract.
+-- Assumes nothing.
 use native.Mathlib.Omega.{arith}
 use mathlib.Core.Path.{sym}
 use denote.Ref.{now}
 use lib.Seq.{length-take-le}
 use borrow.Author.Tests.{eq-eqb, ne-eqb}
+use borrow.Author.Needs.{needs}
 use Rattle.number.specs.Text.{body}
 use Rattle.number.proofs.Laws.{body-le}
-use borrow.Author.Needs.{needs}
 use Rattle.number.proofs.body_len.Statement.{statement}
 use Rattle.number.proofs.body_len.Tie as tie
-use Rattle.number.proofs.body_len.Reads as reads
-use Rattle.number.proofs.body_len.Lts as lts
 
--- src/lib.rt:48:9
 returns : tie.Need-returns
 returns c = omega (arith, body-le (now (c .before .args .s)))
 
--- src/lib.rt:50:10
 sub-if2 : tie.Need-sub-if2
 sub-if2 c = search needs
 
--- src/lib.rt:50:8
 shared-slice-read-if2 : tie.Need-shared-slice-read-if2
 shared-slice-read-if2 c = search needs
 
--- src/lib.rt:50:28
 sub-result : tie.Need-sub-result
 sub-result c = search needs
 
--- src/lib.rt:43:1
 returns-2 : tie.Need-returns-2
 unfolding body
 returns-2 c = rw (eq-eqb _ _ (c .if2 .taken)) (sym (length-take-le _ _ (omega arith)))
 
--- src/lib.rt:43:1
 returns-3 : tie.Need-returns-3
 unfolding body
 returns-3 c = rw (ne-eqb _ _ (c .if2 .left))

@@ -1,20 +1,19 @@
+-- `digits_from` meets its contract. The invariant: the digits left, after the value so far, give the answer for all of them.
+-- Assumes nothing.
 use Prim.Native.Nat.{_+_, _-_, _≤_}
 use native.Mathlib.Omega.{arith}
 use mathlib.Core.Path.{_≡_, sym, ap, _∙_}
+use mathlib.Core.List.{[]}
+use denote.Ref.{now}
 use lib.ListN.{length, getD, drop, drop-of-length-le}
 use lib.Seq.{drop-cons}
+use borrow.Author.Tests.{le-leb}
+use borrow.Author.Needs.{needs}
 use Rattle.errno.specs.Outcome.{granted, refused}
 use Rattle.number.specs.Text.{outcome, atMost, digits, digitsAfter}
 use Rattle.number.proofs.Laws.{oneMore, andDigits, one-le, turn-at}
-use denote.Ref.{now}
-use mathlib.Core.List.{[]}
-use borrow.Author.Tests.{le-leb}
-use borrow.Author.Needs.{needs}
 use Rattle.number.proofs.digits_from.Statement.{statement}
 use Rattle.number.proofs.digits_from.Tie as tie
-use Rattle.number.proofs.digits_from.Reads as reads
-use Rattle.number.proofs.digits_from.Lts as lts
-use Rattle.number.proofs.one_more.Reads as one-more-reads
 
 abbrev Inv-loop : tie.InvT-loop
 Inv-loop s from base limit v₀ i₀ v i =
@@ -23,66 +22,57 @@ Inv-loop s from base limit v₀ i₀ v i =
 abbrev μ-loop : tie.MeasureT-loop
 μ-loop s from base limit v₀ i₀ v i = length s - i
 
--- src/lib.rt:99:9
 returns : tie.Need-returns Inv-loop μ-loop
 unfolding outcome digits atMost
 returns c = rw (drop-of-length-le (now (c .before .before .args .s)) {i = c .before .before .args .from} (omega arith))
 
--- src/lib.rt:103:5
 loop-holds : tie.Need-loop-holds Inv-loop μ-loop
 unfolding digits
-loop-holds c =
-    (omega arith,
-    omega arith,
-    rw (drop-cons (now (c .before .before .args .s)) (c .before .before .args .from) 0 (omega arith)))
+loop-holds c = (
+  omega arith,
+  omega arith,
+  rw (drop-cons (now (c .before .before .args .s)) (c .before .before .args .from) 0 (omega arith)),
+)
 
--- src/lib.rt:104:33
 shared-slice-read-one-more : tie.Need-shared-slice-read-one-more Inv-loop μ-loop
 shared-slice-read-one-more c = search needs
 
--- src/lib.rt:104:15
 one-more-requires : tie.Need-one-more-requires Inv-loop μ-loop
 one-more-requires c κs = search needs
 
--- src/lib.rt:105:27
 enum-known-next : tie.Need-enum-known-next Inv-loop μ-loop
 enum-known-next c = search needs
 
--- src/lib.rt:109:17
 enum-told : tie.Need-enum-told Inv-loop μ-loop
 enum-told c = search needs
 
--- src/lib.rt:109:17
 returns-2 : tie.Need-returns-2 Inv-loop μ-loop
 unfolding outcome andDigits
 returns-2 c =
     let a = c .before .before .before .before .before .before .before .before .args in
     let l = c .before .before .before .before .before .loop in
     let got : oneMore (a .limit) (a .base) (l .v) (getD (now (a .s)) (l .i) 0) ≡ refused 22 =
-        sym (c .before .before .one-more .ensures) ∙ ap outcome (c .enum-told .given .1) in
+    sym (c .before .before .one-more .ensures) ∙ ap outcome (c .enum-told .given .1) in
     sym (l .inv .2 ∙ turn-at (a .limit) (a .base) (l .v) (l .i) (now (a .s)) (omega arith) ∙ ap (andDigits (a .limit) (a .base) (drop (l .i + 1) (now (a .s)))) got)
 
--- src/lib.rt:112:9
 add-i : tie.Need-add-i Inv-loop μ-loop
 add-i c = search needs
 
--- src/lib.rt:103:5
 loop-less : tie.Need-loop-less Inv-loop μ-loop
 loop-less c = omega arith
 
--- src/lib.rt:103:5
 loop-again : tie.Need-loop-again Inv-loop μ-loop
 unfolding outcome andDigits
 loop-again c =
     let a = c .before .before .before .before .before .before .before .before .before .args in
     let l = c .before .before .before .before .before .before .loop in
     let got : oneMore (a .limit) (a .base) (l .v) (getD (now (a .s)) (l .i) 0) ≡ granted (c .before .next .given .0 .0) =
-        sym (c .before .before .before .one-more .ensures) ∙ ap outcome (c .before .next .given .1) in
-    (omega arith,
-    one-le (a .limit) (a .base) (l .v) (getD (now (a .s)) (l .i) 0) got,
-    l .inv .2 ∙ turn-at (a .limit) (a .base) (l .v) (l .i) (now (a .s)) (omega arith) ∙ ap (andDigits (a .limit) (a .base) (drop (l .i + 1) (now (a .s)))) got)
+    sym (c .before .before .before .one-more .ensures) ∙ ap outcome (c .before .next .given .1) in (
+      omega arith,
+      one-le (a .limit) (a .base) (l .v) (getD (now (a .s)) (l .i) 0) got,
+      l .inv .2 ∙ turn-at (a .limit) (a .base) (l .v) (l .i) (now (a .s)) (omega arith) ∙ ap (andDigits (a .limit) (a .base) (drop (l .i + 1) (now (a .s)))) got,
+    )
 
--- src/lib.rt:95:1
 returns-3 : tie.Need-returns-3 Inv-loop μ-loop
 unfolding outcome atMost digitsAfter
 returns-3 c =

@@ -1,21 +1,17 @@
-use native.Mathlib.Omega.{arith}
-use borrow.Author.Tests.{lt-ltb, le-ltb, le-leb, lt-leb}
-use Rattle.number.specs.Text.{outcome, digitOf, atMost}
-use Rattle.number.proofs.Laws.{digit-le}
+-- `one_more` meets its contract, and the value fits.
+-- Assumes nothing.
 use Prim.Native.Nat.{_+_, _*_, _≤_}
+use native.Mathlib.Omega.{arith}
 use native.Mathlib.Nat.{mul-le-mul, mod-eq-of-lt}
+use borrow.Author.Tests.{lt-ltb, le-ltb, le-leb, lt-leb}
 use borrow.Author.Needs.{needs}
+use Rattle.number.specs.Text.{outcome, digitOf, atMost}
 use Rattle.number.proofs.one_more.Statement.{statement}
 use Rattle.number.proofs.one_more.Tie as tie
-use Rattle.number.proofs.one_more.Reads as reads
-use Rattle.number.proofs.one_more.Lts as lts
-use Rattle.number.proofs.digit_of.Reads as digit-of-reads
 
--- src/lib.rt:121:9
 digit-of-requires : tie.Need-digit-of-requires
 digit-of-requires c κs = search needs
 
--- src/lib.rt:123:9
 returns : tie.Need-returns
 unfolding outcome
 returns c = rw (le-ltb (digitOf (c .before .before .args .c)) (c .before .before .args .base) (omega arith))
@@ -27,35 +23,31 @@ product c = mul-le-mul {n₂ = 65535} {m₂ = 255} (omega arith) (omega arith)
 mul-next : tie.Need-mul-next
 mul-next c = omega (arith, product c)
 
--- src/lib.rt:125:46
 cast-next : tie.Need-cast-next
 cast-next c = search needs
 
--- src/lib.rt:125:16
 add-next : tie.Need-add-next
 add-next c = omega (arith, product c)
 
--- src/lib.rt:127:9
 returns-2 : tie.Need-returns-2
 unfolding outcome atMost
 returns-2 c =
     let a = c .before .before .before .args in
     rw (lt-ltb (digitOf (a .c)) (a .base) (omega arith), lt-leb (a .v * a .base + digitOf (a .c)) (a .limit) (omega arith))
 
--- src/lib.rt:129:19
 cast-t12 : tie.Need-cast-t12
 cast-t12 c = search needs
 
--- src/lib.rt:118:1
 returns-3 : tie.Need-returns-3
 unfolding outcome atMost
 returns-3 c =
     let a = c .before .before .before .args in
-    rw
-    (c .before .before .digit-of .ensures,
-    lt-ltb (digitOf (a .c)) (a .base) (omega arith),
-    le-leb (a .v * a .base + digitOf (a .c)) (a .limit) (omega arith),
-    mod-eq-of-lt {n = a .v * a .base + digitOf (a .c)} {m = 65536} (omega arith))
+    rw (
+      c .before .before .digit-of .ensures,
+      lt-ltb (digitOf (a .c)) (a .base) (omega arith),
+      le-leb (a .v * a .base + digitOf (a .c)) (a .limit) (omega arith),
+      mod-eq-of-lt {n = a .v * a .base + digitOf (a .c)} {m = 65536} (omega arith),
+    )
 
 pub one-more-spec : {M : Type 1} → statement M
 one-more-spec =

@@ -1,38 +1,33 @@
+-- `starts_hex` meets its contract.
+-- Assumes nothing.
 use native.Mathlib.Omega.{arith}
 use mathlib.Core.Path.{sym}
 use denote.Ref.{now}
 use lib.ListN.{getD, List·getD-eq-default}
 use lib.Dec.{eqb}
 use borrow.Author.Tests.{eq-eqb, ne-eqb}
+use borrow.Author.Needs.{needs}
 use Rattle.number.specs.Text.{startsHex}
 use Rattle.number.proofs.Laws.{and-false}
-use borrow.Author.Needs.{needs}
 use Rattle.number.proofs.starts_hex.Statement.{statement}
 use Rattle.number.proofs.starts_hex.Tie as tie
-use Rattle.number.proofs.starts_hex.Reads as reads
-use Rattle.number.proofs.starts_hex.Lts as lts
 
--- src/lib.rt:57:9
 returns : tie.Need-returns
 unfolding startsHex
 returns c =
     let s = now (c .before .args .s) in
     rw (List·getD-eq-default s 0 {n = 1} (omega arith)) (sym (and-false (eqb (getD s 0 0) 48)))
 
--- src/lib.rt:59:8
 shared-slice-read-if2 : tie.Need-shared-slice-read-if2
 shared-slice-read-if2 c = search needs
 
--- src/lib.rt:60:9
 returns-2 : tie.Need-returns-2
 unfolding startsHex
 returns-2 c = rw (ne-eqb _ _ (c .if2 .taken))
 
--- src/lib.rt:62:5
 shared-slice-read-result : tie.Need-shared-slice-read-result
 shared-slice-read-result c = search needs
 
--- src/lib.rt:53:1
 returns-3 : tie.Need-returns-3
 unfolding startsHex
 returns-3 c = rw (eq-eqb _ _ (c .before .if2 .left))
