@@ -2,7 +2,11 @@
 //
 // Rests on errno.
 ghost use mathlib.Core.Path.{_≡_};
-ghost use lib.ListN.{length, drop};
+ghost use mathlib.Core.Bool.{cond};
+ghost use Prim.Native.Nat.{_+_, _*_};
+ghost use lib.Dec.{ltb};
+ghost use lib.ListN.{length, getD, drop};
+ghost use Rattle.errno.specs.Outcome.{granted, refused};
 ghost use Rattle.number.specs.Text.{outcome, digitOf, body, startsHex, digits, atMost, numberRule, numberText};
 
 // What reading a text finds.
@@ -81,7 +85,9 @@ pub fn digit_of(c: u8) -> u8
 }
 
 // The first byte, or 0 where there is none.
-fn first(s: &[u8]) -> u8 {
+fn first(s: &[u8]) -> u8
+    ensures { λ r. ⌜ r ≡ getD (now (s .entry)) 0 0 ⌝ }
+{
     if s.len() == 0 { 0 } else { s[0] }
 }
 
@@ -109,7 +115,9 @@ fn digits_from(s: &[u8], from: usize, base: u8, limit: u16) -> Number
 }
 
 // The value after one more digit.
-fn one_more(v: u16, base: u8, c: u8, limit: u16) -> Number {
+fn one_more(v: u16, base: u8, c: u8, limit: u16) -> Number
+    ensures { λ r. ⌜ outcome r ≡ cond (ltb (digitOf c) base) (atMost limit (granted (v * base + digitOf c))) (refused 22) ⌝ }
+{
     let d = digit_of(c);
     if base <= d {
         return Number::Bad;

@@ -1,0 +1,55 @@
+-- `one_more` meets its contract, and the value fits.
+-- Assumes nothing.
+use Prim.Native.Nat.{_+_, _*_, _≤_}
+use native.Mathlib.Omega.{arith}
+use native.Mathlib.Nat.{mul-le-mul, mod-eq-of-lt}
+use borrow.Author.Tests.{lt-ltb, le-ltb, le-leb, lt-leb}
+use borrow.Author.Needs.{needs}
+use Rattle.number.specs.Text.{outcome, digitOf, atMost}
+use Rattle.number.proofs.one_more.Statement.{statement}
+use Rattle.number.proofs.one_more.Tie as tie
+
+digit-of-requires : tie.Need-digit-of-requires
+digit-of-requires c κs = search needs
+
+returns : tie.Need-returns
+unfolding outcome
+returns c = rw (le-ltb (digitOf (c .before .before .args .c)) (c .before .before .args .base) (omega arith))
+
+-- the product of a u16 and a u8
+product : (c : tie.Else1) → c .before .before .args .v * c .before .before .args .base ≤ 65535 * 255
+product c = mul-le-mul {n₂ = 65535} {m₂ = 255} (omega arith) (omega arith)
+
+mul-next : tie.Need-mul-next
+mul-next c = omega (arith, product c)
+
+cast-next : tie.Need-cast-next
+cast-next c = search needs
+
+add-next : tie.Need-add-next
+add-next c = omega (arith, product c)
+
+returns-2 : tie.Need-returns-2
+unfolding outcome atMost
+returns-2 c =
+    let a = c .before .before .before .args in
+    rw (lt-ltb (digitOf (a .c)) (a .base) (omega arith), lt-leb (a .v * a .base + digitOf (a .c)) (a .limit) (omega arith))
+
+cast-t12 : tie.Need-cast-t12
+cast-t12 c = search needs
+
+returns-3 : tie.Need-returns-3
+unfolding outcome atMost
+returns-3 c =
+    let a = c .before .before .before .args in
+    rw (
+      c .before .before .digit-of .ensures,
+      lt-ltb (digitOf (a .c)) (a .base) (omega arith),
+      le-leb (a .v * a .base + digitOf (a .c)) (a .limit) (omega arith),
+      mod-eq-of-lt {n = a .v * a .base + digitOf (a .c)} {m = 65536} (omega arith),
+    )
+
+pub one-more-spec : {M : Type 1} → statement M
+one-more-spec =
+    tie.close
+    (tie.spec digit-of-requires returns mul-next cast-next add-next returns-2 cast-t12 returns-3)
