@@ -6,7 +6,7 @@ use mathlib.Core.Bool.{Bool, true, false, cond, not, _&&_}
 use mathlib.Core.List.{List, [], _∷_}
 use lib.ListN.{getD, set, replicate}
 use lib.Dec.{eqb, ltb}
-use Rattle.mask.specs.Bits.{Bits, bits, bitAt}
+use Rattle.mask.specs.Bits.{Bits, bits, bitAt, numbers}
 use Rattle.rules.specs.declared.Driver.{Driver}
 use Rattle.rules.specs.declared.Driver.the-variants.{Unbound, Host, Passthrough}
 use Rattle.rules.specs.declared.Kind.{Kind}
@@ -97,6 +97,10 @@ unfoldable pub stateIn : List ℕ → List ℕ → State
 stateIn ws qs =
     record { limits = limitsIn ws; host = hostIn ws; config = configIn ws; device = deviceIn ws; driver = λ q. driverOf (getD qs q 0) }
 
+-- the four words of a mask
+unfoldable pub wordsOf : Bits → List ℕ
+wordsOf m = numbers 64 4 m 0
+
 -- the words with those of a mask at word k
 unfoldable pub putFour : List ℕ → ℕ → List ℕ → List ℕ
 putFour ws k m = set (set (set (set ws k (getD m 0 0)) (k + 1) (getD m 1 0)) (k + 2) (getD m 2 0)) (k + 3) (getD m 3 0)
@@ -108,6 +112,10 @@ putNumbers ws p k m = cond (ltb p places) (putFour ws (deviceAt p + kindAt k) m)
 -- the words with the device at place p opened or closed
 unfoldable pub putOpen : List ℕ → ℕ → Bool → List ℕ
 putOpen ws p o = cond (ltb p places) (set ws (deviceAt p + 1) (cond o 1 0)) ws
+
+-- the id of an empty place
+abbrev pub noId : Id
+noId = record { hi = 0; lo = 0 }
 
 -- four zeros
 abbrev pub zeros : List ℕ

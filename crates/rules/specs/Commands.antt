@@ -18,7 +18,7 @@ use Rattle.rules.specs.declared.Answer.the-variants.{Done, Refused}
 use Rattle.rules.specs.declared.Configuration.{Configuration}
 use Rattle.rules.specs.declared.Kind.{Kind}
 use Rattle.rules.specs.declared.Kind.the-variants.{Adapter, Domain, Control}
-use Rattle.rules.specs.State.{Limits, HostMasks, Config, Device, State, places, queues, inProduct, noDevice}
+use Rattle.rules.specs.State.{Limits, HostMasks, Config, Device, Devices, State, places, queues, inProduct, noDevice}
 use Rattle.rules.specs.Queues.{reserved, configured}
 
 -- the errno value of an answer; 0 is no refusal
@@ -46,12 +46,12 @@ firstFrom zero k p = k
 firstFrom (suc n) k p = cond (p k) k (firstFrom n (suc k) p)
 
 -- the place of the device with an id: the first of two that have it; `places` where there is none
-unfoldable pub placeOf : Id → State → ℕ
-placeOf i s = firstFrom places 0 (λ p. s .device p .present && sameId i (s .device p .id))
+unfoldable pub placeOf : Id → Devices → ℕ
+placeOf i vs = firstFrom places 0 (λ p. vs p .present && sameId i (vs p .id))
 
 -- the lowest free place; `places` where there is none
-unfoldable pub freePlace : State → ℕ
-freePlace s = firstFrom places 0 (λ p. not (s .device p .present))
+unfoldable pub freePlace : Devices → ℕ
+freePlace vs = firstFrom places 0 (λ p. not (vs p .present))
 
 -- the state with the device at place p replaced
 unfoldable pub withDevice : ℕ → Device → State → State
@@ -62,17 +62,17 @@ withDevice p v s =
 unfoldable pub withHost : HostMasks → State → State
 withHost h s = record { limits = s .limits; host = h; config = s .config; device = s .device; driver = s .driver }
 
--- the queues of the device at place p: its assigned product, configured or not, open or not
-unfoldable pub product : ℕ → State → Bits
-product p s q = s .device p .present && inProduct (s .device p .adapters) (s .device p .domains) q
+-- a device's queues: its assigned product, configured or not, open or not
+unfoldable pub product : Device → Bits
+product v q = v .present && inProduct (v .adapters) (v .domains) q
 
 -- the queues that are assigned to some device
-unfoldable pub assigned : State → Bits
-assigned s q = someBelow places (λ p. product p s q)
+unfoldable pub assigned : Devices → Bits
+assigned vs q = someBelow places (λ p. product (vs p) q)
 
 -- the queues that are assigned to another device than the one at place p
-unfoldable pub assignedElsewhere : ℕ → State → Bits
-assignedElsewhere p s q = someBelow places (λ j. not (eqb j p) && product j s q)
+unfoldable pub assignedElsewhere : ℕ → Devices → Bits
+assignedElsewhere p vs q = someBelow places (λ j. not (eqb j p) && product (vs j) q)
 
 -- what comes of good text; bad text is refused before anything else is checked
 unfoldable pub reading : {A : Type 0} → Outcome A → (A → Outcome State) → Outcome State
@@ -81,7 +81,7 @@ reading (refused e) next = refused e
 
 -- a command for the device with an id: ENOENT where there is none
 unfoldable pub onDevice : Id → State → (ℕ → Outcome State) → Outcome State
-onDevice i s next = cond (ltb (placeOf i s) places) (next (placeOf i s)) (refused 2)
+onDevice i s next = cond (ltb (placeOf i (s .device)) places) (next (placeOf i (s .device))) (refused 2)
 
 -- a device that is given an id: nothing assigned, not open
 unfoldable pub newDevice : Id → Device
@@ -95,8 +95,8 @@ withOpen o v =
 -- create: EEXIST, then ENOSPC
 unfoldable pub create : Id → State → Outcome State
 create i s =
-    cond (ltb (placeOf i s) places) (refused 17)
-    (cond (ltb (freePlace s) places) (granted (withDevice (freePlace s) (newDevice i) s)) (refused 28))
+    cond (ltb (placeOf i (s .device)) places) (refused 17)
+    (cond (ltb (freePlace (s .device)) places) (granted (withDevice (freePlace (s .device)) (newDevice i) s)) (refused 28))
 
 -- remove: ENOENT, then EBUSY if open
 unfoldable pub remove : Id → State → Outcome State
@@ -142,7 +142,7 @@ paired Control n v = noBits
 unfoldable pub adding : Bits → ℕ → State → State → Outcome State
 adding new p s t =
     cond (someBelow queues (both new (reserved (s .host)))) (refused 99)
-    (cond (someBelow queues (both new (assignedElsewhere p s))) (refused 98) (granted t))
+    (cond (someBelow queues (both new (assignedElsewhere p (s .device)))) (refused 98) (granted t))
 
 -- assign a number that is in range to the device at place p; what is assigned is accepted and changes nothing
 unfoldable pub assignAt : Kind → ℕ → ℕ → State → Outcome State
@@ -166,7 +166,7 @@ unassign k i text s =
 
 -- new host masks: EADDRINUSE exactly if a queue reserved under them is assigned
 unfoldable pub setHost : HostMasks → State → Outcome State
-setHost h s = cond (someBelow queues (both (reserved h) (assigned s))) (refused 98) (granted (withHost h s))
+setHost h s = cond (someBelow queues (both (reserved h) (assigned (s .device)))) (refused 98) (granted (withHost h s))
 
 -- set apmask: the text, EADDRINUSE
 unfoldable pub setApmask : List ℕ → State → Outcome State

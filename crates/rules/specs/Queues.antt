@@ -1,6 +1,6 @@
 -- Where a queue belongs, moves, the moves remaining, and guest masks (01, "Where a queue belongs" and "Guest masks").
 -- Assumes nothing.
-use Prim.Native.Nat.{ℕ, zero, suc, _+_, _*_}
+use Prim.Native.Nat.{ℕ, zero, suc, _+_, _-_, _*_, min}
 use mathlib.Core.Bool.{Bool, true, false, cond, not, _&&_}
 use lib.Dec.{eqb, leb}
 use Rattle.mask.specs.Bits.{Bits, someBelow, both}
@@ -62,9 +62,13 @@ unfoldable pub sumBelow : ℕ → (ℕ → ℕ) → ℕ
 sumBelow zero f = 0
 sumBelow (suc n) f = sumBelow n f + f n
 
+-- the moves that queue q still needs
+unfoldable pub dueAt : State → ℕ → ℕ
+dueAt s q = due (s .driver q) (target s q)
+
 -- the moves remaining
 unfoldable pub remaining : State → ℕ
-remaining s = sumBelow queues (λ q. due (s .driver q) (target s q))
+remaining s = sumBelow queues (dueAt s)
 
 -- the drivers with queue n given another
 unfoldable pub rebound : ℕ → Driver → (ℕ → Driver) → ℕ → Driver
@@ -84,6 +88,28 @@ move q s =
       device = s .device;
       driver = rebound q (after (s .driver q) (moveAnswer q s)) (s .driver);
     }
+
+-- the state after n moves of queue q, one after the other
+unfoldable pub moves : ℕ → ℕ → State → State
+moves zero q s = s
+moves (suc n) q s = moves n q (move q s)
+
+-- the state after a sweep of the n queues from k on with b moves to make: each queue is finished before the next
+unfoldable pub sweepFrom : ℕ → ℕ → ℕ → State → State
+sweepFrom zero k b s = s
+sweepFrom (suc n) k b s = sweepFrom n (suc k) (b - min b (dueAt s k)) (moves (min b (dueAt s k)) k s)
+
+-- a larger budget is taken as this one
+abbrev pub mostMoves : ℕ
+mostMoves = 131072
+
+-- the state after a sweep of all queues
+unfoldable pub sweep : ℕ → State → State
+sweep b s = sweepFrom queues 0 (min b mostMoves) s
+
+-- the moves that a sweep makes
+unfoldable pub movesUsed : ℕ → State → ℕ
+movesUsed b s = min (min b mostMoves) (remaining s)
 
 -- bound to passthrough
 unfoldable pub passed : Driver → Bool

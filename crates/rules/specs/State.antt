@@ -43,12 +43,16 @@ pub record Device : Type 0 where
   pub domains : Bits
   pub controls : Bits
 
+-- a device for each place
+abbrev pub Devices : Type 0
+Devices = ℕ → Device
+
 -- the whole state
 pub record State : Type 0 where
   pub limits : Limits
   pub host : HostMasks
   pub config : Config
-  pub device : ℕ → Device
+  pub device : Devices
   pub driver : ℕ → Driver
 
 -- the queue's APID

@@ -1,0 +1,78 @@
+// Looking through the devices of a record: the place of an id, a free place, and whether a product is assigned.
+//
+// Rests on mask, rules and record.
+use mask::Mask;
+use record::PLACES;
+use record::WORDS;
+use rules::Id;
+use rules::Kind;
+ghost use mathlib.Core.Path.{_≡_};
+ghost use Rattle.mask.specs.Bits.{bits, someBelow, both};
+ghost use Rattle.rules.specs.State.{inProduct, queues};
+ghost use Rattle.rules.specs.Commands.{placeOf, freePlace, assignedElsewhere};
+ghost use Rattle.record.specs.Layout.{deviceIn};
+
+// The place of the device with an id, or PLACES where there is none.
+pub fn find(s: &[u64; WORDS], i: Id) -> usize
+    ensures { λ r. ⌜ r ≡ placeOf i (deviceIn (now (s .entry))) ⌝ }
+{
+    let mut p = 0usize;
+    while p < PLACES {
+        if is_at(s, p, i) {
+            return p;
+        }
+        p += 1;
+    }
+    p
+}
+
+// Whether the device with an id is at place p.
+fn is_at(s: &[u64; WORDS], p: usize, i: Id) -> bool {
+    if record::present(s, p) {
+        let j = record::id(s, p);
+        if i.hi == j.hi {
+            return i.lo == j.lo;
+        }
+    }
+    false
+}
+
+// The lowest free place, or PLACES where there is none.
+pub fn free(s: &[u64; WORDS]) -> usize
+    ensures { λ r. ⌜ r ≡ freePlace (deviceIn (now (s .entry))) ⌝ }
+{
+    let mut p = 0usize;
+    while p < PLACES {
+        if !record::present(s, p) {
+            return p;
+        }
+        p += 1;
+    }
+    p
+}
+
+// Whether a queue of a product is assigned to another device than the one at place p.
+pub fn taken(s: &[u64; WORDS], p: usize, adapters: Mask, domains: Mask) -> bool
+    ensures { λ r. ⌜ r ≡ someBelow queues (both (inProduct (bits adapters) (bits domains)) (assignedElsewhere p (deviceIn (now (s .entry))))) ⌝ }
+{
+    let mut j = 0usize;
+    while j < PLACES {
+        if j != p {
+            if shares(s, j, adapters, domains) {
+                return true;
+            }
+        }
+        j += 1;
+    }
+    false
+}
+
+// Whether a queue of a product is assigned to the device at place j.
+fn shares(s: &[u64; WORDS], j: usize, adapters: Mask, domains: Mask) -> bool {
+    if record::present(s, j) {
+        if record::numbers(s, j, Kind::Adapter).meets(adapters) {
+            return record::numbers(s, j, Kind::Domain).meets(domains);
+        }
+    }
+    false
+}
