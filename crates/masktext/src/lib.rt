@@ -3,7 +3,9 @@
 // Rests on errno, mask, maskbytes and number.
 use mask::Mask;
 ghost use mathlib.Core.Path.{_≡_};
+ghost use Prim.Native.Nat.{ℕ, _<_, _≤_};
 ghost use mathlib.Core.Bool.{false};
+ghost use lib.ListN.{length, getD};
 ghost use Rattle.mask.specs.Bits.{bits};
 ghost use Rattle.masktext.specs.Text.{outcome, maskText};
 
@@ -79,7 +81,12 @@ fn items(s: &[u8], old: Mask) -> MaskRead {
 }
 
 // The first comma of s at or after an index, or the length of s.
-fn comma(s: &[u8], from: usize) -> usize {
+fn comma(s: &[u8], from: usize) -> usize
+    requires { ⌜ from ≤ length (now s) ⌝ }
+    ensures within { λ r. ⌜ (from ≤ r) × (r ≤ length (now (s .entry))) ⌝ }
+    ensures passed { λ r. ⌜ ((k : ℕ) → k < r → from ≤ k → getD (now (s .entry)) k 0 ≡ 44 → ⊥) ⌝ }
+    ensures found { λ r. ⌜ (r < length (now (s .entry)) → getD (now (s .entry)) r 0 ≡ 44) ⌝ }
+{
     let mut i = from;
     while i < s.len() {
         if s[i] == b',' {
