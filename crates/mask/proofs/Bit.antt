@@ -7,7 +7,7 @@ use native.Mathlib.Omega.{arith}
 use mathlib.Core.Path.{_≡_, refl, sym, ap, ap₂, subst, _∙_}
 use mathlib.Core.Bool.{Bool, true, false, cond, not, _&&_, _||_}
 use lib.Dec.{eqb, ltb, leb, eqb·suc-zero}
-use lib.Arith.{lt-one, digits-mod}
+use lib.Arith.{lt-one, digits-div}
 use lib.Pow.{pow-pos, pow-mono, pow-add, shr-shr, shr-lt, high, ones-lt, ones-split}
 use lib.Bits.{bitAnd, bitOr, bitXor, differ, and-shr, or-shr, xor-shr, and-step, or-step, xor-step}
 use borrow.Author.Tests.{leb-true, leb-false, ltb-true, ltb-false, eqb-true, eqb-false, lt-ltb, le-ltb, le-leb, lt-leb, eq-eqb, ne-eqb}
@@ -164,10 +164,10 @@ digit-ones s k = go (ltb k s) refl
 -- ---- a number by its digits
 
 -- the digits of a number are the lowest and those of its half
-digit-half : (x k : ℕ) → digit (x / 2) k ≡ digit x (suc k)
+pub digit-half : (x k : ℕ) → digit (x / 2) k ≡ digit x (suc k)
 digit-half x k = digit-shr x 1 k ∙ ap (digit x) (one-add k)
 
-half-small : (x w : ℕ) → x < 2 ^ suc w → x / 2 < 2 ^ w
+pub half-small : (x w : ℕ) → x < 2 ^ suc w → x / 2 < 2 ^ w
 half-small x w h = shr-lt w 1 (subst (λ (n : ℕ). x < 2 ^ n) (sym (add-one w)) h)
 
 -- the lowest digit
@@ -179,6 +179,16 @@ digit-mod x = ap (λ (y : ℕ). cond (eqb (y % 2) 1) 1 0) (div-one x) ∙ go (x 
     go zero h = refl
     go (suc zero) h = refl
     go (suc (suc y)) h = absurd (not-suc-le-zero (le-of-suc-le-suc (le-of-suc-le-suc h)))
+
+-- a number with one digit more, c, below
+pub digit-snoc : (h : ℕ) (c : Bool) (k : ℕ) → digit (h * 2 + cond c 1 0) (suc k) ≡ digit h k
+digit-snoc h true k = sym (digit-half (h * 2 + 1) k) ∙ ap (λ (x : ℕ). digit x k) (digits-div h (le-refl 2))
+digit-snoc h false k = sym (digit-half (h * 2 + 0) k) ∙ ap (λ (x : ℕ). digit x k) (digits-div h (zero-lt-suc 1))
+
+pub digit-last : (h : ℕ) (c : Bool) → digit (h * 2 + cond c 1 0) 0 ≡ c
+unfolding digit
+digit-last h true = join-low h 1 1 0 (zero-lt-suc 0)
+digit-last h false = join-low h 1 0 0 (zero-lt-suc 0)
 
 -- numbers of w digits are equal where their digits are
 pub same-digits : (w x y : ℕ) → x < 2 ^ w → y < 2 ^ w → ((k : ℕ) → k < w → digit x k ≡ digit y k) → x ≡ y
