@@ -8,7 +8,7 @@ use mathlib.Core.Path.{_≡_, refl, sym, ap, ap₂, subst, _∙_}
 use mathlib.Core.Bool.{Bool, true, false, cond, not, _&&_, _||_}
 use lib.Dec.{eqb, ltb, leb, eqb·suc-zero}
 use lib.Arith.{lt-one, digits-div}
-use lib.Pow.{pow-pos, pow-mono, pow-add, shr-shr, shr-lt, high, ones-lt, ones-split}
+use lib.Pow.{shl-exact, pow-pos, pow-mono, pow-add, shr-shr, shr-lt, high, ones-lt, ones-split}
 use lib.Bits.{bitAnd, bitOr, bitXor, differ, and-shr, or-shr, xor-shr, and-step, or-step, xor-step}
 use borrow.Author.Tests.{leb-true, leb-false, ltb-true, ltb-false, eqb-true, eqb-false, lt-ltb, le-ltb, le-leb, lt-leb, eq-eqb, ne-eqb}
 use Rattle.mask.specs.Bits.{digit}
@@ -160,6 +160,10 @@ digit-ones s k = go (ltb k s) refl
     go : (b : Bool) → ltb k s ≡ b → digit (2 ^ s - 1) k ≡ b
     go true e = ones-low s k (ltb-true k s e)
     go false e = digit-past s k (ones-lt s) (ltb-false k s e)
+
+-- `1 << s`
+pub one-shl : (w s : ℕ) → s < w → 1 * 2 ^ s % 2 ^ w ≡ 2 ^ s
+one-shl w s h = shl-exact 1 s w (le-refl 2) (omega arith) ∙ one-mul (2 ^ s)
 
 -- ---- a number by its digits
 

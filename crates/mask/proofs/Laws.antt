@@ -7,7 +7,7 @@ use native.Mathlib.Omega.{arith}
 use mathlib.Core.Path.{_≡_, refl, sym, ap, ap₂, subst, _∙_}
 use mathlib.Core.Logic.{_⊎_, inl, inr, _↔_}
 use mathlib.Core.Bool.{Bool, true, false, cond, not, _&&_, _||_, or-true, or-false, or-comm, or-assoc, and-comm, true≢false}
-use mathlib.Core.List.{List, [], _∷_}
+use mathlib.Core.List.{List, [], _∷_, map}
 use lib.ListN.{length, getD, set, List·getD-eq-default}
 use lib.Seq.{ext-getD, getD-set-same, getD-set-other}
 use lib.Dec.{eqb, ltb, leb}
@@ -15,8 +15,14 @@ use lib.Arith.{lt-one, digits-lt, digits-div, digits-mod}
 use lib.Pow.{pow-pos}
 use lib.Bits.{bitAnd, bitOr, bitXor, or-add-and, and-le-l, and-le-r}
 use lib.Count.{ones, onesIn, ones-step}
+use borrow.Author.Needs.{needs, elem-fits-field, length-unmapped}
 use borrow.Author.Tests.{ltb-true, ltb-false, leb-true, leb-false, eqb-true, eqb-false, lt-ltb, le-ltb, eq-eqb, ne-eqb}
-use Rattle.mask.specs.Bits.{Bits, digit, bitAt, someBelow, countBelow, number, numbers}
+use mir.Val.{Val}
+use mir.Syntax.{w64}
+use denote.Laws.{Is}
+use Rattle.mask.specs.declared.Mask.{Mask}
+use Rattle.mask.proofs.Mask.{the-row}
+use Rattle.mask.specs.Bits.{Bits, digit, bitAt, bits, someBelow, countBelow, number, numbers}
 use Rattle.mask.proofs.Bit.{digit-or, digit-clear, digit-zero, digit-pow, digit-mod, digit-half, half-small, digit-snoc, digit-last, same-digits, some-digit}
 
 -- two tests that follow from each other are one
@@ -255,29 +261,30 @@ count-number (suc w) x h =
     last : suc w - 1 - w ≡ 0
     last = omega arith
 
-module _ {w n : ℕ} {xs : List ℕ} (h : Words w n xs) (q : ℕ) where
-  -- some bit of the first numbers, and of the next
-  pub some-words : someBelow (q * w + w) (bitAt w xs) ≡ (someBelow (q * w) (bitAt w xs) || not (eqb (getD xs q 0) 0))
-  some-words =
-      some-add (q * w) w (bitAt w xs)
-      ∙ ap (λ (b : Bool). someBelow (q * w) (bitAt w xs) || b)
-        (some-cong w (λ i. bitAt w xs (q * w + i)) (ofNumber w (getD xs q 0)) (λ i l. bit-of w q i xs l) ∙ some-number w (getD xs q 0) (h .small q))
-
-  -- how many bits of the first numbers, and of the next
-  pub count-words : countBelow (q * w + w) (bitAt w xs) ≡ countBelow (q * w) (bitAt w xs) + ones (getD xs q 0)
-  count-words =
-      count-add (q * w) w (bitAt w xs)
-      ∙ ap (λ (k : ℕ). countBelow (q * w) (bitAt w xs) + k)
-        (count-cong w (λ i. bitAt w xs (q * w + i)) (ofNumber w (getD xs q 0)) (λ i l. bit-of w q i xs l) ∙ count-number w (getD xs q 0) (h .small q))
-
 -- a number is not 0 where one of two is not
-pub or-some : (a b : ℕ) → not (eqb (bitOr a b) 0) ≡ (not (eqb a 0) || not (eqb b 0))
+or-some : (a b : ℕ) → not (eqb (bitOr a b) 0) ≡ (not (eqb a 0) || not (eqb b 0))
 or-some a b = go (eqb a 0) (eqb b 0) refl refl
   where
     go : (s t : Bool) → eqb a 0 ≡ s → eqb b 0 ≡ t → not (eqb (bitOr a b) 0) ≡ (not s || not t)
     go true true p q = ap not (eq-eqb (bitOr a b) 0 (omega (arith, or-add-and a b, eqb-true a 0 p, eqb-true b 0 q)))
     go true false p q = ap not (ne-eqb (bitOr a b) 0 (λ z. eqb-false b 0 q (omega (arith, or-add-and a b, and-le-l a b, and-le-r a b))))
     go false t p q = ap not (ne-eqb (bitOr a b) 0 (λ z. eqb-false a 0 p (omega (arith, or-add-and a b, and-le-l a b, and-le-r a b))))
+
+module _ {w n : ℕ} {xs : List ℕ} (h : Words w n xs) (q a : ℕ) where
+  -- a is not 0 where some bit of the first q numbers is set; so with one number more
+  pub some-next : not (eqb a 0) ≡ someBelow (q * w) (bitAt w xs) → not (eqb (bitOr a (getD xs q 0)) 0) ≡ someBelow (q * w + w) (bitAt w xs)
+  some-next e =
+      or-some a (getD xs q 0)
+      ∙ ap₂ _||_ e
+        (sym (some-cong w (λ i. bitAt w xs (q * w + i)) (ofNumber w (getD xs q 0)) (λ i l. bit-of w q i xs l) ∙ some-number w (getD xs q 0) (h .small q)))
+      ∙ sym (some-add (q * w) w (bitAt w xs))
+
+  -- a bits of the first q numbers are set; so with one number more
+  pub count-next : a ≡ countBelow (q * w) (bitAt w xs) → a + ones (getD xs q 0) ≡ countBelow (q * w + w) (bitAt w xs)
+  count-next e =
+      ap₂ _+_ e
+      (sym (count-cong w (λ i. bitAt w xs (q * w + i)) (ofNumber w (getD xs q 0)) (λ i l. bit-of w q i xs l) ∙ count-number w (getD xs q 0) (h .small q)))
+      ∙ sym (count-add (q * w) w (bitAt w xs))
 
 -- ---- numbers packed from bits
 
@@ -336,3 +343,29 @@ numbers-bits w n m k i p h =
 pub numbers-of-bits : {w n : ℕ} {xs : List ℕ} → 0 < w → Words w n xs → numbers w n (bitAt w xs) 0 ≡ xs
 numbers-of-bits {w} {n} {xs} p h =
     same-bits p (numbers-words w n (bitAt w xs) 0) h (λ i l. numbers-bits w n (bitAt w xs) 0 i p l ∙ ap (bitAt w xs) (zero-add i))
+
+-- ---- a mask
+
+-- a mask has four words of 64 bits, by what owning it tells: `c .good` of a parameter, `c .CALL .ok` of a result
+pub mask-words : (m : Mask) {vs : List Val} → Is the-row m vs → Words 64 4 (m .words)
+mask-words m h = record { long = search needs; small = λ k. elem-fits-field w64 w64 (m .words) (h .1 .1 .0 .0) k (h .1 .1 .0 .1 .1) tt .fits }
+
+-- what holds at 0, 1, 2 and 3 holds below 4
+pub below-four : (P : ℕ → Type 0) → P 0 → P 1 → P 2 → P 3 → (q : ℕ) → q < 4 → P q
+below-four P a b c d zero h = a
+below-four P a b c d (suc zero) h = b
+below-four P a b c d (suc (suc zero)) h = c
+below-four P a b c d (suc (suc (suc zero))) h = d
+below-four P a b c d (suc (suc (suc (suc q)))) h = absurd (omega arith)
+
+-- the bits of a mask that is made word by word from two
+pub mask-op : (x y : Mask) (op : ℕ → ℕ → ℕ) (g : Bool → Bool → Bool)
+    → ((a b k : ℕ) → digit (op a b) k ≡ g (digit a k) (digit b k)) → g false false ≡ false
+    → Words 64 4 (x .words) → Words 64 4 (y .words) → (i : ℕ)
+    → bitAt 64 (map (λ q. op (getD (x .words) q 0) (getD (y .words) q 0)) (0 ∷ 1 ∷ 2 ∷ 3 ∷ [])) i ≡ g (bits x i) (bits y i)
+mask-op x y op g law none hx hy =
+    op-bits 64 4 (x .words) (y .words) zs op g law none (hx .long) (hy .long) refl
+    (below-four (λ q. getD zs q 0 ≡ op (getD (x .words) q 0) (getD (y .words) q 0)) refl refl refl refl)
+  where
+    zs : List ℕ
+    zs = map (λ q. op (getD (x .words) q 0) (getD (y .words) q 0)) (0 ∷ 1 ∷ 2 ∷ 3 ∷ [])
