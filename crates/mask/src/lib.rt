@@ -1,7 +1,10 @@
 // A mask of 256 bits as one value, and the two kinds of number that name its bits.
 //
 // Rests on nothing. Bit 0 is the most significant bit of the first word.
+ghost use Prim.Native.Nat.{_-_, _^_};
+ghost use mathlib.Core.Bool.{cond};
 ghost use mathlib.Core.Path.{_≡_};
+ghost use lib.Dec.{ltb, eqb};
 ghost use Rattle.mask.specs.Bits.{bits, noBits, allBits, bitsAbove, included, excluded, both, either, someBelow, countBelow};
 
 // An adapter number. It is a kind of its own, so that no call can take a domain number for it.
@@ -128,7 +131,9 @@ impl Mask {
 }
 
 // Word j of the bits above a limit that lies in word k, where part is that word.
-fn beyond_word(k: u8, j: u8, part: u64) -> u64 {
+fn beyond_word(k: u8, j: u8, part: u64) -> u64
+    ensures { λ r. ⌜ r ≡ cond (ltb k j) (2 ^ 64 - 1) (cond (eqb k j) part 0) ⌝ }
+{
     if k < j {
         u64::MAX
     } else {

@@ -1,0 +1,58 @@
+-- `Mask::count` meets its contract.
+-- Assumes nothing.
+use native.Mathlib.Nat.{zero-add}
+use native.Mathlib.Omega.{arith}
+use mathlib.Core.Path.{sym, _∙_}
+use lib.ListN.{getD}
+use Prim.Native.Nat.{ℕ, _≤_}
+use lib.Count.{ones, ones-le}
+use Rattle.mask.specs.Bits.{bits}
+use Rattle.mask.proofs.Laws.{Words, mask-words, count-next, count-le}
+use borrow.Author.Needs.{needs}
+use Rattle.mask.proofs.Mask.count.Statement.{statement}
+use Rattle.mask.proofs.Mask.count.Tie as tie
+
+array-read-result : tie.Need-array-read-result
+array-read-result c = search needs
+
+array-read-result-2 : tie.Need-array-read-result-2
+array-read-result-2 c = search needs
+
+-- a word has at most 64 ones
+tops : (c : tie.After-x) (q : ℕ) → ones (getD (c .before .args .self .words) q 0) ≤ 64
+tops c q = ones-le 64 (getD (c .before .args .self .words) q 0) (mask-words (c .before .args .self) (c .before .good .0) .small q)
+
+add-result : tie.Need-add-result
+add-result c = omega (arith, tops c 0, tops c 1, tops c 2, tops c 3)
+
+array-read-result-3 : tie.Need-array-read-result-3
+array-read-result-3 c = search needs
+
+add-result-2 : tie.Need-add-result-2
+add-result-2 c = omega (arith, tops c 0, tops c 1, tops c 2, tops c 3)
+
+array-read-result-4 : tie.Need-array-read-result-4
+array-read-result-4 c = search needs
+
+add-result-3 : tie.Need-add-result-3
+add-result-3 c = omega (arith, tops c 0, tops c 1, tops c 2, tops c 3)
+
+returns : tie.Need-returns
+returns c =
+    let x = c .before .args .self .words in
+    let h : Words 64 4 x = mask-words (c .before .args .self) (c .before .good .0) in
+    let h₀ = sym (zero-add (ones (getD x 0 0))) ∙ count-next h 0 0 (omega (arith, count-le 0 (bits (c .before .args .self)))) in
+    count-next h 3 _ (count-next h 2 _ (count-next h 1 _ h₀))
+
+pub count-spec : {M : Type 1} → statement M
+count-spec =
+    tie.close
+    (tie.spec
+    array-read-result
+    array-read-result-2
+    add-result
+    array-read-result-3
+    add-result-2
+    array-read-result-4
+    add-result-3
+    returns)
