@@ -3,6 +3,7 @@
 use Prim.Native.Nat.{ℕ}
 use mathlib.Core.List.{List, [], _∷_}
 use Rattle.errno.specs.declared.Errno.{Errno}
+use Rattle.errno.specs.Ascii.{ascii}
 use Rattle.errno.specs.declared.Errno.the-variants.{Enoent, Ebusy, Eexist, Enodev, Einval, Enospc, Eaddrinuse, Eaddrnotavail}
 
 -- the errno value of each case
@@ -18,14 +19,14 @@ numberOf Eaddrnotavail = 99
 
 -- the name of each case, in ASCII
 unfoldable pub nameOf : Errno → List ℕ
-nameOf Enoent = 69 ∷ 78 ∷ 79 ∷ 69 ∷ 78 ∷ 84 ∷ []
-nameOf Ebusy = 69 ∷ 66 ∷ 85 ∷ 83 ∷ 89 ∷ []
-nameOf Eexist = 69 ∷ 69 ∷ 88 ∷ 73 ∷ 83 ∷ 84 ∷ []
-nameOf Enodev = 69 ∷ 78 ∷ 79 ∷ 68 ∷ 69 ∷ 86 ∷ []
-nameOf Einval = 69 ∷ 73 ∷ 78 ∷ 86 ∷ 65 ∷ 76 ∷ []
-nameOf Enospc = 69 ∷ 78 ∷ 79 ∷ 83 ∷ 80 ∷ 67 ∷ []
-nameOf Eaddrinuse = 69 ∷ 65 ∷ 68 ∷ 68 ∷ 82 ∷ 73 ∷ 78 ∷ 85 ∷ 83 ∷ 69 ∷ []
-nameOf Eaddrnotavail = 69 ∷ 65 ∷ 68 ∷ 68 ∷ 82 ∷ 78 ∷ 79 ∷ 84 ∷ 65 ∷ 86 ∷ 65 ∷ 73 ∷ 76 ∷ []
+nameOf Enoent = ascii "ENOENT"
+nameOf Ebusy = ascii "EBUSY"
+nameOf Eexist = ascii "EEXIST"
+nameOf Enodev = ascii "ENODEV"
+nameOf Einval = ascii "EINVAL"
+nameOf Enospc = ascii "ENOSPC"
+nameOf Eaddrinuse = ascii "EADDRINUSE"
+nameOf Eaddrnotavail = ascii "EADDRNOTAVAIL"
 
 -- the eight cases by ascending number, as the table has them
 unfoldable pub cases : List Errno

@@ -4,6 +4,7 @@ use native.Mathlib.Omega.{arith}
 use mathlib.Core.Path.{ap, _∙_}
 use lib.ListN.{getD}
 use borrow.Author.Needs.{needs}
+use Rattle.errno.specs.Ascii.{ascii}
 use Rattle.errno.specs.Errno.{numberOf, nameOf, cases}
 use Rattle.errno.proofs.Table.{Entry, entryOf, right, row-below}
 use Rattle.errno.proofs.name.Statement.{statement}
@@ -19,7 +20,7 @@ array-copy-out-entry : tie.Need-array-copy-out-entry
 array-copy-out-entry c = omega (arith, c .row .ensures, row-below (c .before .args .e))
 
 returns : tie.Need-returns
-unfolding numberOf nameOf cases entryOf
+unfolding ascii numberOf nameOf cases entryOf
 returns c =
     let e = c .before .before .before .args .e in
     rw (c .before .before .row .ensures)

@@ -4,6 +4,7 @@ use native.Mathlib.Omega.{arith}
 use mathlib.Core.Path.{ap, _∙_}
 use lib.ListN.{getD}
 use borrow.Author.Needs.{needs}
+use Rattle.errno.specs.Ascii.{ascii}
 use Rattle.errno.specs.Errno.{numberOf, nameOf, cases}
 use Rattle.errno.proofs.Table.{Entry, entryOf, right, row-below}
 use Rattle.errno.proofs.number.Statement.{statement}
@@ -19,7 +20,7 @@ element-copy-out-result : tie.Need-element-copy-out-result
 element-copy-out-result c = omega (arith, c .row .ensures, row-below (c .before .args .e))
 
 returns : tie.Need-returns
-unfolding numberOf nameOf cases entryOf
+unfolding ascii numberOf nameOf cases entryOf
 returns c = rw (c .row .ensures) (ap (λ (x : Entry). x .number) (right (c .before .args .e) _))
 
 pub number-spec : {M : Type 1} → statement M
