@@ -3,14 +3,13 @@
 use Prim.Native.Nat.{ℕ, _+_, _-_, _*_, _/_, _%_, _^_, _≤_, _<_}
 use native.Mathlib.Omega.{arith}
 use mathlib.Core.Bool.{Bool, true, false, cond, _&&_, and-false, and-true}
-use mathlib.Core.Path.{_≡_, refl, sym, ap, subst, fun-ext, _∙_}
-use mathlib.Core.List.{List, [], _∷_}
+use mathlib.Core.Path.{_≡_, refl, sym, ap, fun-ext, _∙_}
+use mathlib.Core.List.{[], _∷_}
 use lib.ListN.{getD}
 use lib.Dec.{eqb, ltb}
-use lib.Pow.{pow-pos}
 use borrow.Author.Tests.{lt-ltb, le-ltb, ltb-true, ltb-false, eqb-true, eqb-false}
 use Rattle.mask.specs.Bits.{digit, bitsAbove}
-use Rattle.mask.proofs.Bit.{digit-zero, digit-ones, one-shl}
+use Rattle.mask.proofs.Bit.{digit-zero, digit-ones, one-shl, one-shl-pos}
 use Rattle.mask.proofs.Laws.{same-test, each-bits, below-four}
 use borrow.Author.Needs.{needs}
 use Rattle.mask.proofs.Mask.beyond.Statement.{statement}
@@ -30,8 +29,8 @@ above n q j l m = go (ltb (n / 64) q) (eqb (n / 64) q) refl refl ∙ sym (and-tr
     go false true p e =
         ap (λ (x : ℕ). digit (x - 1) (63 - j)) (one-shl 64 (63 - n % 64) (omega arith)) ∙ digit-ones (63 - n % 64) (63 - j)
         ∙ same-test
-          (λ b. lt-ltb n (q * 64 + j) (omega (arith, ltb-true (63 - j) (63 - n % 64) b, eqb-true (n / 64) q e)))
-          (λ b. lt-ltb (63 - j) (63 - n % 64) (omega (arith, ltb-true n (q * 64 + j) b, eqb-true (n / 64) q e)))
+        (λ b. lt-ltb n (q * 64 + j) (omega (arith, ltb-true (63 - j) (63 - n % 64) b, eqb-true (n / 64) q e)))
+        (λ b. lt-ltb (63 - j) (63 - n % 64) (omega (arith, ltb-true n (q * 64 + j) b, eqb-true (n / 64) q e)))
     go false false p e =
         let apart : n / 64 ≡ q → ⊥ = eqb-false (n / 64) q e in
         digit-zero (63 - j) ∙ sym (le-ltb n (q * 64 + j) (omega (arith, ltb-false (n / 64) q p)))
@@ -53,7 +52,7 @@ shl-part : tie.Need-shl-part
 shl-part c = search needs
 
 sub-part-2 : tie.Need-sub-part-2
-sub-part-2 c = subst (λ (x : ℕ). 1 ≤ x) (sym (one-shl 64 (63 - c .args .limit % 64) (omega arith))) (pow-pos (63 - c .args .limit % 64))
+sub-part-2 c = one-shl-pos 64 _ (omega arith)
 
 beyond-word-requires : tie.Need-beyond-word-requires
 beyond-word-requires c κs = search needs
