@@ -77,11 +77,6 @@ pub digit-past : {x : ℕ} (w k : ℕ) → x < 2 ^ w → w ≤ k → digit x k �
 unfolding digit
 digit-past w k h l = ap (λ (x : ℕ). eqb (x % 2) 1) (div-eq-of-lt (lt-of-lt-of-le h (pow-mono l)))
 
--- digit k of a number, as the lowest digit of what stands above
-digit-low : (x k : ℕ) → digit x k ≡ digit (x / 2 ^ k) 0
-unfolding digit
-digit-low x k = ap (λ (y : ℕ). eqb (y % 2) 1) (sym (div-one (x / 2 ^ k)))
-
 digit-shr : (x j k : ℕ) → digit (x / 2 ^ j) k ≡ digit x (j + k)
 unfolding digit
 digit-shr x j k = ap (λ (y : ℕ). eqb (y % 2) 1) (shr-shr x j k)
