@@ -10,7 +10,7 @@ use lib.Dec.{eqb, ltb, leb, eqb·suc-zero}
 use lib.Arith.{lt-one, digits-div}
 use lib.Pow.{shl-exact, pow-pos, pow-mono, pow-add, shr-shr, shr-lt, high, ones-lt, ones-split}
 use lib.Bits.{bitAnd, bitOr, bitXor, differ, and-shr, or-shr, xor-shr, and-step, or-step, xor-step}
-use borrow.Author.Tests.{leb-true, leb-false, ltb-true, ltb-false, eqb-true, eqb-false, lt-ltb, le-ltb, le-leb, lt-leb, eq-eqb, ne-eqb}
+use borrow.Author.Tests.{leb-true, leb-false, ltb-true, ltb-false, eqb-true, eqb-false, eq-eqb, ne-eqb}
 use Rattle.mask.specs.Bits.{digit}
 
 two-pos : 0 < 2
@@ -76,11 +76,6 @@ digit-zero k = ap (λ (x : ℕ). eqb (x % 2) 1) (zero-div (2 ^ k))
 pub digit-past : {x : ℕ} (w k : ℕ) → x < 2 ^ w → w ≤ k → digit x k ≡ false
 unfolding digit
 digit-past w k h l = ap (λ (x : ℕ). eqb (x % 2) 1) (div-eq-of-lt (lt-of-lt-of-le h (pow-mono l)))
-
--- digit k of a number, as the lowest digit of what stands above
-digit-low : (x k : ℕ) → digit x k ≡ digit (x / 2 ^ k) 0
-unfolding digit
-digit-low x k = ap (λ (y : ℕ). eqb (y % 2) 1) (sym (div-one (x / 2 ^ k)))
 
 digit-shr : (x j k : ℕ) → digit (x / 2 ^ j) k ≡ digit x (j + k)
 unfolding digit
@@ -165,6 +160,9 @@ digit-ones s k = go (ltb k s) refl
 pub one-shl : (w s : ℕ) → s < w → 1 * 2 ^ s % 2 ^ w ≡ 2 ^ s
 one-shl w s h = shl-exact 1 s w (le-refl 2) (omega arith) ∙ one-mul (2 ^ s)
 
+pub one-shl-pos : (w s : ℕ) → s < w → 1 ≤ 1 * 2 ^ s % 2 ^ w
+one-shl-pos w s h = subst (λ (x : ℕ). 1 ≤ x) (sym (one-shl w s h)) (pow-pos s)
+
 -- ---- a number by its digits
 
 -- the digits of a number are the lowest and those of its half
@@ -200,9 +198,9 @@ same-digits zero x y hx hy e = lt-one hx ∙ sym (lt-one hy)
 same-digits (suc w) x y hx hy e =
     sym (div-add-mod' x 2)
     ∙ ap₂ (λ (a b : ℕ). a * 2 + b)
-      (same-digits w (x / 2) (y / 2) (half-small x w hx) (half-small y w hy)
-        (λ k l. digit-half x k ∙ e (suc k) (suc-le-suc l) ∙ sym (digit-half y k)))
-      (sym (digit-mod x) ∙ ap (λ (b : Bool). cond b 1 0) (e 0 (suc-le-suc zero-le)) ∙ digit-mod y)
+    (same-digits w (x / 2) (y / 2) (half-small x w hx) (half-small y w hy)
+    (λ k l. digit-half x k ∙ e (suc k) (suc-le-suc l) ∙ sym (digit-half y k)))
+    (sym (digit-mod x) ∙ ap (λ (b : Bool). cond b 1 0) (e 0 (suc-le-suc zero-le)) ∙ digit-mod y)
     ∙ div-add-mod' y 2
 
 -- a number of w digits that is not 0 has a digit set

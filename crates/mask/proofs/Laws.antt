@@ -1,8 +1,7 @@
 -- The bits of numbers of w bits each: one by one, some of them, how many of them, and numbers packed from bits.
 -- Assumes nothing.
 use Prim.Native.Nat.{ℕ, zero, suc, _+_, _-_, _*_, _/_, _%_, _^_, _≤_, _<_, zero-le, suc-le-suc}
-use native.Mathlib.Nat.{le-refl, le-trans, le-of-eq, le-of-suc-le-suc, not-suc-le-zero, eq-or-lt-of-le, add-zero, add-suc, zero-add, add-assoc, add-comm, pow-suc, mod-lt, div-add-mod', le-div-iff-mul-le, div-lt-iff-lt-mul, lt-of-not-le}
-use native.Mathlib.Numerals.{add-one}
+use native.Mathlib.Nat.{le-refl, le-of-suc-le-suc, not-suc-le-zero, eq-or-lt-of-le, add-zero, add-suc, zero-add, add-assoc, add-comm, pow-suc, mod-lt, div-add-mod', le-div-iff-mul-le, div-lt-iff-lt-mul}
 use native.Mathlib.Omega.{arith}
 use mathlib.Core.Path.{_≡_, refl, sym, ap, ap₂, subst, _∙_}
 use mathlib.Core.Logic.{_⊎_, inl, inr, _↔_}
@@ -10,13 +9,13 @@ use mathlib.Core.Bool.{Bool, true, false, cond, not, _&&_, _||_, or-true, or-fal
 use mathlib.Core.List.{List, [], _∷_, map}
 use lib.ListN.{length, getD, set, List·getD-eq-default}
 use lib.Seq.{ext-getD, getD-set-same, getD-set-other}
-use lib.Dec.{eqb, ltb, leb}
+use lib.Dec.{eqb, ltb}
 use lib.Arith.{lt-one, digits-lt, digits-div, digits-mod}
 use lib.Pow.{pow-pos}
 use lib.Bits.{bitAnd, bitOr, bitXor, or-add-and, and-le-l, and-le-r}
 use lib.Count.{ones, onesIn, ones-step}
-use borrow.Author.Needs.{needs, elem-fits-field, length-unmapped}
-use borrow.Author.Tests.{ltb-true, ltb-false, leb-true, leb-false, eqb-true, eqb-false, lt-ltb, le-ltb, eq-eqb, ne-eqb}
+use borrow.Author.Needs.{needs, elem-fits-field}
+use borrow.Author.Tests.{ltb-true, ltb-false, eqb-true, eqb-false, eq-eqb, ne-eqb}
 use mir.Val.{Val}
 use mir.Syntax.{w64}
 use denote.Laws.{Is}
@@ -87,9 +86,9 @@ same-place : (w i j : ℕ) → 0 < w → j / w ≡ i / w → eqb (w - 1 - j % w)
 same-place w i j p e =
     same-test
     (λ q.
-      let digits : w - 1 - j % w ≡ w - 1 - i % w = eqb-true (w - 1 - j % w) (w - 1 - i % w) q in
-      let rests : j % w ≡ i % w = omega (arith, mod-lt j p, mod-lt i p) in
-      eq-eqb j i (sym (div-add-mod' j w) ∙ ap₂ (λ (a b : ℕ). a * w + b) e rests ∙ div-add-mod' i w))
+    let digits : w - 1 - j % w ≡ w - 1 - i % w = eqb-true (w - 1 - j % w) (w - 1 - i % w) q in
+    let rests : j % w ≡ i % w = omega (arith, mod-lt j p, mod-lt i p) in
+    eq-eqb j i (sym (div-add-mod' j w) ∙ ap₂ (λ (a b : ℕ). a * w + b) e rests ∙ div-add-mod' i w))
     (λ q. eq-eqb (w - 1 - j % w) (w - 1 - i % w) (ap (λ (k : ℕ). w - 1 - k % w) (eqb-true j i q)))
 
 other-place : (w i j : ℕ) → eqb (j / w) (i / w) ≡ false → eqb j i ≡ false
@@ -251,7 +250,7 @@ count-number zero x h = sym (ap ones (lt-one h))
 count-number (suc w) x h =
     ap₂ (λ (a : ℕ) (k : ℕ). a + cond (digit x k) 1 0)
     (count-cong w (ofNumber (suc w) x) (ofNumber w (x / 2)) (λ i l. ap (digit x) (further i l) ∙ sym (digit-half x (w - 1 - i)))
-      ∙ count-number w (x / 2) (half-small x w h))
+    ∙ count-number w (x / 2) (half-small x w h))
     last
     ∙ ap (λ (k : ℕ). ones (x / 2) + k) (digit-mod x) ∙ add-comm (ones (x / 2)) (x % 2) ∙ sym (ones-step x)
   where
@@ -276,7 +275,7 @@ module _ {w n : ℕ} {xs : List ℕ} (h : Words w n xs) (q a : ℕ) where
   some-next e =
       or-some a (getD xs q 0)
       ∙ ap₂ _||_ e
-        (sym (some-cong w (λ i. bitAt w xs (q * w + i)) (ofNumber w (getD xs q 0)) (λ i l. bit-of w q i xs l) ∙ some-number w (getD xs q 0) (h .small q)))
+      (sym (some-cong w (λ i. bitAt w xs (q * w + i)) (ofNumber w (getD xs q 0)) (λ i l. bit-of w q i xs l) ∙ some-number w (getD xs q 0) (h .small q)))
       ∙ sym (some-add (q * w) w (bitAt w xs))
 
   -- a bits of the first q numbers are set; so with one number more

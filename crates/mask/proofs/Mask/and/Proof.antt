@@ -3,10 +3,10 @@
 use mathlib.Core.Path.{refl, fun-ext}
 use mathlib.Core.Bool.{_&&_}
 use lib.Bits.{bitAnd}
+use borrow.Author.Needs.{needs}
 use Rattle.mask.specs.Bits.{both}
 use Rattle.mask.proofs.Bit.{digit-and}
 use Rattle.mask.proofs.Laws.{mask-words, mask-op}
-use borrow.Author.Needs.{needs}
 use Rattle.mask.proofs.Mask.and.Statement.{statement}
 use Rattle.mask.proofs.Mask.and.Tie as tie
 

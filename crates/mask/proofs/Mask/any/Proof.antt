@@ -4,9 +4,9 @@ use native.Mathlib.Nat.{not-suc-le-zero}
 use mathlib.Core.Path.{sym}
 use lib.ListN.{getD}
 use lib.Bits.{bitOr}
+use borrow.Author.Needs.{needs}
 use Rattle.mask.specs.Bits.{bits}
 use Rattle.mask.proofs.Laws.{Words, mask-words, some-next, none-some}
-use borrow.Author.Needs.{needs}
 use Rattle.mask.proofs.Mask.any.Statement.{statement}
 use Rattle.mask.proofs.Mask.any.Tie as tie
 

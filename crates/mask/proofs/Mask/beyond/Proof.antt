@@ -3,16 +3,15 @@
 use Prim.Native.Nat.{ℕ, _+_, _-_, _*_, _/_, _%_, _^_, _≤_, _<_}
 use native.Mathlib.Omega.{arith}
 use mathlib.Core.Bool.{Bool, true, false, cond, _&&_, and-false, and-true}
-use mathlib.Core.Path.{_≡_, refl, sym, ap, subst, fun-ext, _∙_}
-use mathlib.Core.List.{List, [], _∷_}
+use mathlib.Core.Path.{_≡_, refl, sym, ap, fun-ext, _∙_}
+use mathlib.Core.List.{[], _∷_}
 use lib.ListN.{getD}
 use lib.Dec.{eqb, ltb}
-use lib.Pow.{pow-pos}
 use borrow.Author.Tests.{lt-ltb, le-ltb, ltb-true, ltb-false, eqb-true, eqb-false}
-use Rattle.mask.specs.Bits.{digit, bitsAbove}
-use Rattle.mask.proofs.Bit.{digit-zero, digit-ones, one-shl}
-use Rattle.mask.proofs.Laws.{same-test, each-bits, below-four}
 use borrow.Author.Needs.{needs}
+use Rattle.mask.specs.Bits.{digit, bitsAbove}
+use Rattle.mask.proofs.Bit.{digit-zero, digit-ones, one-shl, one-shl-pos}
+use Rattle.mask.proofs.Laws.{same-test, each-bits, below-four}
 use Rattle.mask.proofs.Mask.beyond.Statement.{statement}
 use Rattle.mask.proofs.Mask.beyond.Tie as tie
 
@@ -22,7 +21,9 @@ wordOf n q = cond (ltb (n / 64) q) (2 ^ 64 - 1) (cond (eqb (n / 64) q) (1 * 2 ^ 
 
 above : (n q j : ℕ) → q < 4 → j < 64 → digit (wordOf n q) (63 - j) ≡ bitsAbove n (q * 64 + j)
 unfolding bitsAbove
-above n q j l m = go (ltb (n / 64) q) (eqb (n / 64) q) refl refl ∙ sym (and-true (ltb n (q * 64 + j))) ∙ ap (λ (b : Bool). ltb n (q * 64 + j) && b) (sym (lt-ltb (q * 64 + j) 256 (omega arith)))
+above n q j l m =
+    go (ltb (n / 64) q) (eqb (n / 64) q) refl refl ∙ sym (and-true (ltb n (q * 64 + j)))
+    ∙ ap (λ (b : Bool). ltb n (q * 64 + j) && b) (sym (lt-ltb (q * 64 + j) 256 (omega arith)))
   where
     go : (s t : Bool) → ltb (n / 64) q ≡ s → eqb (n / 64) q ≡ t
         → digit (cond s (2 ^ 64 - 1) (cond t (1 * 2 ^ (63 - n % 64) % 2 ^ 64 - 1) 0)) (63 - j) ≡ ltb n (q * 64 + j)
@@ -30,8 +31,8 @@ above n q j l m = go (ltb (n / 64) q) (eqb (n / 64) q) refl refl ∙ sym (and-tr
     go false true p e =
         ap (λ (x : ℕ). digit (x - 1) (63 - j)) (one-shl 64 (63 - n % 64) (omega arith)) ∙ digit-ones (63 - n % 64) (63 - j)
         ∙ same-test
-          (λ b. lt-ltb n (q * 64 + j) (omega (arith, ltb-true (63 - j) (63 - n % 64) b, eqb-true (n / 64) q e)))
-          (λ b. lt-ltb (63 - j) (63 - n % 64) (omega (arith, ltb-true n (q * 64 + j) b, eqb-true (n / 64) q e)))
+        (λ b. lt-ltb n (q * 64 + j) (omega (arith, ltb-true (63 - j) (63 - n % 64) b, eqb-true (n / 64) q e)))
+        (λ b. lt-ltb (63 - j) (63 - n % 64) (omega (arith, ltb-true n (q * 64 + j) b, eqb-true (n / 64) q e)))
     go false false p e =
         let apart : n / 64 ≡ q → ⊥ = eqb-false (n / 64) q e in
         digit-zero (63 - j) ∙ sym (le-ltb n (q * 64 + j) (omega (arith, ltb-false (n / 64) q p)))
@@ -53,7 +54,7 @@ shl-part : tie.Need-shl-part
 shl-part c = search needs
 
 sub-part-2 : tie.Need-sub-part-2
-sub-part-2 c = subst (λ (x : ℕ). 1 ≤ x) (sym (one-shl 64 (63 - c .args .limit % 64) (omega arith))) (pow-pos (63 - c .args .limit % 64))
+sub-part-2 c = one-shl-pos 64 _ (omega arith)
 
 beyond-word-requires : tie.Need-beyond-word-requires
 beyond-word-requires c κs = search needs
@@ -71,11 +72,14 @@ returns : tie.Need-returns
 unfolding bitsAbove
 returns c =
     let n = c .before .before .before .before .args .limit in
-    let ws = c .before .before .before .beyond-word .result ∷ c .before .before .beyond-word2 .result ∷ c .before .beyond-word3 .result ∷ c .beyond-word4 .result ∷ [] in
-    let words = below-four (λ q. getD ws q 0 ≡ wordOf n q) (c .before .before .before .beyond-word .ensures) (c .before .before .beyond-word2 .ensures) (c .before .beyond-word3 .ensures) (c .beyond-word4 .ensures) in
+    let c₂ = c .before .before in
+    let ws = c₂ .before .beyond-word .result ∷ c₂ .beyond-word2 .result ∷ c .before .beyond-word3 .result ∷ c .beyond-word4 .result ∷ [] in
+    let words =
+    below-four (λ q. getD ws q 0 ≡ wordOf n q) (c₂ .before .beyond-word .ensures) (c₂ .beyond-word2 .ensures)
+    (c .before .beyond-word3 .ensures) (c .beyond-word4 .ensures) in
     fun-ext
     (each-bits 64 4 ws (bitsAbove n) (omega arith) refl
-    (λ q j l m. ap (λ (x : ℕ). digit x (63 - j)) (words q l) ∙ above n q j l m) (λ i l. past n i l))
+    (λ q j l m. ap (λ (x : ℕ). digit x (63 - j)) (words q l) ∙ above n q j l m) (past n))
 
 pub beyond-spec : {M : Type 1} → statement M
 beyond-spec =

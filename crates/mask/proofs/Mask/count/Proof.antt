@@ -1,14 +1,14 @@
 -- `Mask::count` meets its contract.
 -- Assumes nothing.
+use Prim.Native.Nat.{ℕ, _≤_}
 use native.Mathlib.Nat.{zero-add}
 use native.Mathlib.Omega.{arith}
 use mathlib.Core.Path.{sym, _∙_}
 use lib.ListN.{getD}
-use Prim.Native.Nat.{ℕ, _≤_}
 use lib.Count.{ones, ones-le}
+use borrow.Author.Needs.{needs}
 use Rattle.mask.specs.Bits.{bits}
 use Rattle.mask.proofs.Laws.{Words, mask-words, count-next, count-le}
-use borrow.Author.Needs.{needs}
 use Rattle.mask.proofs.Mask.count.Statement.{statement}
 use Rattle.mask.proofs.Mask.count.Tie as tie
 

@@ -1,8 +1,8 @@
 -- `Mask::empty` meets its contract.
 -- Assumes nothing.
-use mathlib.Core.Path.{ap, fun-ext, refl, _∙_}
-use native.Mathlib.Omega.{arith}
 use Prim.Native.Nat.{ℕ, _-_}
+use native.Mathlib.Omega.{arith}
+use mathlib.Core.Path.{ap, fun-ext, refl, _∙_}
 use lib.ListN.{replicate, getD-replicate}
 use Rattle.mask.specs.Bits.{digit, noBits}
 use Rattle.mask.proofs.Bit.{digit-zero}

@@ -1,8 +1,8 @@
 -- `Mask::exceeds` meets its contract.
 -- Assumes nothing.
 use mathlib.Core.Path.{ap, _∙_}
-use Rattle.mask.specs.Bits.{Bits, someBelow, both, bits}
 use borrow.Author.Needs.{needs}
+use Rattle.mask.specs.Bits.{Bits, someBelow, both, bits}
 use Rattle.mask.proofs.Mask.exceeds.Statement.{statement}
 use Rattle.mask.proofs.Mask.exceeds.Tie as tie
 

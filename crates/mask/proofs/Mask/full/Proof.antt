@@ -1,8 +1,8 @@
 -- `Mask::full` meets its contract.
 -- Assumes nothing.
-use mathlib.Core.Path.{sym, ap, fun-ext, refl, _∙_}
-use native.Mathlib.Omega.{arith}
 use Prim.Native.Nat.{ℕ, _+_, _-_, _*_, _^_}
+use native.Mathlib.Omega.{arith}
+use mathlib.Core.Path.{sym, ap, fun-ext, refl, _∙_}
 use lib.ListN.{replicate, getD-replicate}
 use borrow.Author.Tests.{lt-ltb, le-ltb}
 use Rattle.mask.specs.Bits.{digit, allBits}

@@ -1,8 +1,8 @@
 -- `Mask::has` meets its contract.
 -- Assumes nothing.
 use mathlib.Core.Path.{refl}
-use Rattle.mask.specs.Bits.{digit, bitAt}
 use borrow.Author.Needs.{needs}
+use Rattle.mask.specs.Bits.{digit, bitAt}
 use Rattle.mask.proofs.Mask.has.Statement.{statement}
 use Rattle.mask.proofs.Mask.has.Tie as tie
 

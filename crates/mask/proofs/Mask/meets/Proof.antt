@@ -1,8 +1,8 @@
 -- `Mask::meets` meets its contract.
 -- Assumes nothing.
 use mathlib.Core.Path.{ap, _∙_}
-use Rattle.mask.specs.Bits.{someBelow}
 use borrow.Author.Needs.{needs}
+use Rattle.mask.specs.Bits.{someBelow}
 use Rattle.mask.proofs.Mask.meets.Statement.{statement}
 use Rattle.mask.proofs.Mask.meets.Tie as tie
 

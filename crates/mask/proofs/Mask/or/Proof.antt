@@ -3,10 +3,10 @@
 use mathlib.Core.Path.{refl, fun-ext}
 use mathlib.Core.Bool.{_||_}
 use lib.Bits.{bitOr}
+use borrow.Author.Needs.{needs}
 use Rattle.mask.specs.Bits.{either}
 use Rattle.mask.proofs.Bit.{digit-or}
 use Rattle.mask.proofs.Laws.{mask-words, mask-op}
-use borrow.Author.Needs.{needs}
 use Rattle.mask.proofs.Mask.or.Statement.{statement}
 use Rattle.mask.proofs.Mask.or.Tie as tie
 

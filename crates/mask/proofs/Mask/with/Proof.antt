@@ -1,14 +1,14 @@
 -- `Mask::with` meets its contract.
 -- Assumes nothing.
-use mathlib.Core.Path.{ap, fun-ext, _∙_}
-use native.Mathlib.Omega.{arith}
 use Prim.Native.Nat.{ℕ, _-_, _/_, _%_}
+use native.Mathlib.Omega.{arith}
+use mathlib.Core.Path.{ap, fun-ext, _∙_}
 use lib.ListN.{getD, set}
 use lib.Bits.{bitOr}
+use borrow.Author.Needs.{needs}
 use Rattle.mask.specs.Bits.{bitAt, included}
 use Rattle.mask.proofs.Bit.{one-shl}
 use Rattle.mask.proofs.Laws.{mask-words, bit-set}
-use borrow.Author.Needs.{needs}
 use Rattle.mask.proofs.Mask.with.Statement.{statement}
 use Rattle.mask.proofs.Mask.with.Tie as tie
 

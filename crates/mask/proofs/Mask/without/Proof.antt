@@ -1,14 +1,14 @@
 -- `Mask::without` meets its contract.
 -- Assumes nothing.
-use mathlib.Core.Path.{ap, fun-ext, _∙_}
-use native.Mathlib.Omega.{arith}
 use Prim.Native.Nat.{ℕ, _-_, _/_, _%_}
+use native.Mathlib.Omega.{arith}
+use mathlib.Core.Path.{ap, fun-ext, _∙_}
 use lib.ListN.{getD, set}
 use lib.Bits.{bitAnd, bitXor}
+use borrow.Author.Needs.{needs}
 use Rattle.mask.specs.Bits.{bitAt, excluded}
 use Rattle.mask.proofs.Bit.{one-shl}
 use Rattle.mask.proofs.Laws.{mask-words, bit-clear}
-use borrow.Author.Needs.{needs}
 use Rattle.mask.proofs.Mask.without.Statement.{statement}
 use Rattle.mask.proofs.Mask.without.Tie as tie
 
