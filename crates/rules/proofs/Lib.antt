@@ -1,0 +1,3 @@
+pub mod Products
+pub mod Places
+pub mod Sums

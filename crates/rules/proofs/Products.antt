@@ -1,0 +1,131 @@
+-- Products of adapters and domains: two share a queue exactly when the adapters meet and the domains meet.
+-- Assumes nothing.
+use Prim.Native.Nat.{ℕ, _+_, _*_, _/_, _%_, _<_}
+use native.Mathlib.Nat.{mod-lt, div-lt-iff-lt-mul}
+use native.Mathlib.Omega.{arith}
+use mathlib.Core.Bool.{Bool, true, false, not, _&&_, and-eq-true-iff}
+use mathlib.Core.Path.{_≡_, refl, sym, ap, ap₂, subst, _∙_, fun-ext}
+use mathlib.Core.Logic.{_↔_}
+use lib.Dec.{eqb, lit<}
+use lib.Arith.{digits-div, digits-mod}
+use borrow.Author.Tests.{ne-eqb}
+use Rattle.mask.specs.Bits.{Bits, someBelow, both}
+use Rattle.mask.proofs.Laws.{same-test, some-intro, some-elim, some-exactly, some-cong, none-some, some-none}
+use Rattle.rules.specs.State.{Devices, inProduct, places, queues}
+use Rattle.rules.specs.Commands.{product, assigned, assignedElsewhere}
+
+-- a bit that is in both
+pub both-left : (a b : Bits) (i : ℕ) → both a b i ≡ true → a i ≡ true
+unfolding both
+both-left a b i e = and-eq-true-iff (a i) (b i) .0 e .0
+
+pub both-right : (a b : Bits) (i : ℕ) → both a b i ≡ true → b i ≡ true
+unfolding both
+both-right a b i e = and-eq-true-iff (a i) (b i) .0 e .1
+
+pub in-both : (a b : Bits) (i : ℕ) → a i ≡ true → b i ≡ true → both a b i ≡ true
+unfolding both
+in-both a b i p q = and-eq-true-iff (a i) (b i) .1 (p, q)
+
+-- the queue of an adapter and a domain
+pub queue-apid : (a d : ℕ) → d < 256 → (a * 256 + d) / 256 ≡ a
+queue-apid a d h = digits-div a h
+
+pub queue-apqi : (a d : ℕ) → d < 256 → (a * 256 + d) % 256 ≡ d
+queue-apqi a d h = digits-mod a h
+
+pub queue-below : (a d : ℕ) → a < 256 → d < 256 → a * 256 + d < queues
+queue-below a d h k = omega arith
+
+-- a queue in a product, by its adapter and its domain
+pub in-product : (us vs : Bits) (a d : ℕ) → d < 256 → inProduct us vs (a * 256 + d) ≡ (us a && vs d)
+unfolding inProduct
+in-product us vs a d h = ap₂ (λ (x y : ℕ). us x && vs y) (queue-apid a d h) (queue-apqi a d h)
+
+-- a queue that is in a product
+pub product-apid : (us vs : Bits) (q : ℕ) → inProduct us vs q ≡ true → us (q / 256) ≡ true
+unfolding inProduct
+product-apid us vs q e = and-eq-true-iff (us (q / 256)) (vs (q % 256)) .0 e .0
+
+pub product-apqi : (us vs : Bits) (q : ℕ) → inProduct us vs q ≡ true → vs (q % 256) ≡ true
+unfolding inProduct
+product-apqi us vs q e = and-eq-true-iff (us (q / 256)) (vs (q % 256)) .0 e .1
+
+module _ (a d a′ d′ : Bits) where
+  forth : someBelow queues (both (inProduct a d) (inProduct a′ d′)) ≡ true → (someBelow 256 (both a a′) && someBelow 256 (both d d′)) ≡ true
+  forth e =
+      let f = some-elim queues (both (inProduct a d) (inProduct a′ d′)) e in
+      let q = f .0 in
+      let l = both-left (inProduct a d) (inProduct a′ d′) q (f .2) in
+      let r = both-right (inProduct a d) (inProduct a′ d′) q (f .2) in
+      and-eq-true-iff (someBelow 256 (both a a′)) (someBelow 256 (both d d′)) .1
+      (some-intro 256 (both a a′) (q / 256) (div-lt-iff-lt-mul (lit< tt) .1 (f .1))
+      (in-both a a′ (q / 256) (product-apid a d q l) (product-apid a′ d′ q r)),
+      some-intro 256 (both d d′) (q % 256) (mod-lt q (lit< tt)) (in-both d d′ (q % 256) (product-apqi a d q l) (product-apqi a′ d′ q r)))
+
+  back : (someBelow 256 (both a a′) && someBelow 256 (both d d′)) ≡ true → someBelow queues (both (inProduct a d) (inProduct a′ d′)) ≡ true
+  back e =
+      let h = and-eq-true-iff (someBelow 256 (both a a′)) (someBelow 256 (both d d′)) .0 e in
+      let f = some-elim 256 (both a a′) (h .0) in
+      let g = some-elim 256 (both d d′) (h .1) in
+      let q = f .0 * 256 + g .0 in
+      some-intro queues (both (inProduct a d) (inProduct a′ d′)) q (queue-below (f .0) (g .0) (f .1) (g .1))
+      (in-both (inProduct a d) (inProduct a′ d′) q
+      (in-product a d (f .0) (g .0) (g .1)
+      ∙ and-eq-true-iff (a (f .0)) (d (g .0)) .1 (both-left a a′ (f .0) (f .2), both-left d d′ (g .0) (g .2)))
+      (in-product a′ d′ (f .0) (g .0) (g .1)
+      ∙ and-eq-true-iff (a′ (f .0)) (d′ (g .0)) .1 (both-right a a′ (f .0) (f .2), both-right d d′ (g .0) (g .2))))
+
+  -- the test of whether two products share a queue
+  pub products-meet : someBelow queues (both (inProduct a d) (inProduct a′ d′)) ≡ (someBelow 256 (both a a′) && someBelow 256 (both d d′))
+  products-meet = same-test forth back
+
+  -- it is yes exactly when some queue is in both
+  pub products-exactly : ((someBelow 256 (both a a′) && someBelow 256 (both d d′)) ≡ true)
+      ↔ ((q : ℕ) × (q < queues) × (both (inProduct a d) (inProduct a′ d′) q ≡ true))
+  products-exactly = subst (λ (b : Bool). (b ≡ true) ↔ ((q : ℕ) × (q < queues) × (both (inProduct a d) (inProduct a′ d′) q ≡ true))) products-meet (some-exactly queues (both (inProduct a d) (inProduct a′ d′)))
+
+-- some of the first n for some of the first k, in either order
+pub some-swap : (n k : ℕ) (f : ℕ → ℕ → Bool) → someBelow n (λ q. someBelow k (λ j. f j q)) ≡ someBelow k (λ j. someBelow n (λ q. f j q))
+some-swap n k f = same-test (turn n k (λ q j. f j q)) (turn k n f)
+  where
+    turn : (n k : ℕ) (g : ℕ → ℕ → Bool) → someBelow n (λ q. someBelow k (λ j. g q j)) ≡ true → someBelow k (λ j. someBelow n (λ q. g q j)) ≡ true
+    turn n k g e =
+        let x = some-elim n (λ q. someBelow k (λ j. g q j)) e in
+        let y = some-elim k (λ j. g (x .0) j) (x .2) in
+        some-intro k (λ j. someBelow n (λ q. g q j)) (y .0) (y .1) (some-intro n (λ q. g q (y .0)) (x .0) (x .1) (y .2))
+
+-- a test before and after `some`
+pub some-and : (k : ℕ) (b : Bool) (f : Bits) → (b && someBelow k f) ≡ someBelow k (λ j. b && f j)
+some-and k true f = refl
+some-and k false f = sym (none-some k (λ j. false) (λ i h. refl))
+
+-- the queues assigned to a device other than one that has no place are those assigned to any
+pub elsewhere-anywhere : (vs : Devices) → assignedElsewhere places vs ≡ assigned vs
+unfolding assigned assignedElsewhere
+elsewhere-anywhere vs =
+    fun-ext (λ q. some-cong places (λ j. not (eqb j places) && product (vs j) q) (λ j. product (vs j) q)
+    (λ j h. ap (λ (b : Bool). not b && product (vs j) q) (ne-eqb j places (λ e. omega arith))))
+
+-- a product shares a queue with another device's exactly when some device elsewhere has a product that meets it
+pub taken-by : (p : ℕ) (vs : Devices) (us ds : Bits)
+    → someBelow queues (both (inProduct us ds) (assignedElsewhere p vs))
+    ≡ someBelow places (λ j. not (eqb j p) && (vs j .present && (someBelow 256 (both us (vs j .adapters)) && someBelow 256 (both ds (vs j .domains)))))
+unfolding both assignedElsewhere product
+taken-by p vs us ds =
+    some-cong queues (λ q. inProduct us ds q && someBelow places (λ j. here j q)) (λ q. someBelow places (λ j. inProduct us ds q && here j q))
+    (λ q h. some-and places (inProduct us ds q) (λ j. here j q))
+    ∙ some-swap queues places (λ j q. inProduct us ds q && here j q)
+    ∙ some-cong places (λ j. someBelow queues (λ q. inProduct us ds q && here j q)) (λ j. there j) (λ j h. one j (not (eqb j p)) (vs j .present))
+  where
+    here : ℕ → Bits
+    here j q = not (eqb j p) && (vs j .present && inProduct (vs j .adapters) (vs j .domains) q)
+
+    there : Bits
+    there j = not (eqb j p) && (vs j .present && (someBelow 256 (both us (vs j .adapters)) && someBelow 256 (both ds (vs j .domains))))
+
+    one : (j : ℕ) (a b : Bool) → someBelow queues (λ q. inProduct us ds q && (a && (b && inProduct (vs j .adapters) (vs j .domains) q)))
+        ≡ (a && (b && (someBelow 256 (both us (vs j .adapters)) && someBelow 256 (both ds (vs j .domains)))))
+    one j true true = products-meet us ds (vs j .adapters) (vs j .domains)
+    one j true false = none-some queues (λ q. inProduct us ds q && false) (λ q h. mathlib.Core.Bool.and-false (inProduct us ds q))
+    one j false b = none-some queues (λ q. inProduct us ds q && false) (λ q h. mathlib.Core.Bool.and-false (inProduct us ds q))

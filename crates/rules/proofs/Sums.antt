@@ -1,0 +1,53 @@
+-- Sums over the numbers below n.
+-- Assumes nothing.
+use Prim.Native.Nat.{ℕ, zero, suc, _+_, _*_, _≤_, _<_}
+use native.Mathlib.Nat.{eq-or-lt-of-le, le-of-suc-le-suc, mul-suc}
+use native.Mathlib.Numerals.{add-one}
+use native.Mathlib.Omega.{arith}
+use mathlib.Core.Path.{_≡_, refl, sym, ap, ap₂, subst, _∙_}
+use mathlib.Core.Logic.{⊎-elim}
+use Rattle.rules.specs.Queues.{sumBelow}
+
+-- one term more
+pub sum-more : (n : ℕ) (f : ℕ → ℕ) → sumBelow (n + 1) f ≡ sumBelow n f + f n
+unfolding sumBelow
+sum-more n f = rw add-one refl
+
+-- equal terms, equal sums
+pub sum-cong : (n : ℕ) (f g : ℕ → ℕ) → ((j : ℕ) → j < n → f j ≡ g j) → sumBelow n f ≡ sumBelow n g
+unfolding sumBelow
+sum-cong zero f g e = refl
+sum-cong (suc n) f g e = ap₂ (λ (a b : ℕ). a + b) (sum-cong n f g (λ j h. e j (omega arith))) (e n (omega arith))
+
+-- terms of at most c
+pub sum-le : (n c : ℕ) (f : ℕ → ℕ) → ((j : ℕ) → f j ≤ c) → sumBelow n f ≤ c * n
+unfolding sumBelow
+sum-le zero c f h = omega arith
+sum-le (suc n) c f h = omega (arith, sum-le n c f h, h n, mul-suc c n)
+
+-- one term of the sum is another, and the others are the same
+pub sum-change : (n q : ℕ) (f g : ℕ → ℕ) → q < n → ((j : ℕ) → j < n → (j ≡ q → ⊥) → f j ≡ g j) → sumBelow n f + g q ≡ sumBelow n g + f q
+unfolding sumBelow
+sum-change zero q f g h e = absurd (omega arith)
+sum-change (suc n) q f g h e =
+    ⊎-elim (λ l. last l) (λ l. earlier l (sum-change n q f g l (λ j k ne. e j (omega arith) ne))) (eq-or-lt-of-le (le-of-suc-le-suc h))
+  where
+    last : q ≡ n → sumBelow n f + f n + g q ≡ sumBelow n g + g n + f q
+    last l =
+        let s : sumBelow n f ≡ sumBelow n g = sum-cong n f g (λ j k. e j (omega arith) (λ m. omega arith)) in
+        subst (λ (m : ℕ). sumBelow n f + f n + g m ≡ sumBelow n g + g n + f m) (sym l) (omega arith)
+
+    earlier : q < n → sumBelow n f + g q ≡ sumBelow n g + f q → sumBelow n f + f n + g q ≡ sumBelow n g + g n + f q
+    earlier l i = let t : f n ≡ g n = e n (omega arith) (λ m. omega arith) in omega arith
+
+-- a sum of nothing but zeros, and only that, is zero
+pub sum-zero : (n : ℕ) (f : ℕ → ℕ) → sumBelow n f ≡ 0 → (j : ℕ) → j < n → f j ≡ 0
+unfolding sumBelow
+sum-zero zero f e j h = absurd (omega arith)
+sum-zero (suc n) f e j h =
+    ⊎-elim (λ l. subst (λ (m : ℕ). f m ≡ 0) (sym l) (omega arith)) (λ l. sum-zero n f (omega arith) j l) (eq-or-lt-of-le (le-of-suc-le-suc h))
+
+pub zero-sum : (n : ℕ) (f : ℕ → ℕ) → ((j : ℕ) → j < n → f j ≡ 0) → sumBelow n f ≡ 0
+unfolding sumBelow
+zero-sum zero f e = refl
+zero-sum (suc n) f e = omega (arith, zero-sum n f (λ j h. e j (omega arith)), e n (omega arith))
