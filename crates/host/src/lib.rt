@@ -58,13 +58,25 @@ pub fn configure(s: &mut [u64; WORDS], q: &mut [u8; 65536], c: Configuration) ->
     if controls.exceeds(record::max_domain(s)) {
         return Answer::Refused(Errno::Enodev);
     }
-    unbind(q, record::configured_adapters(s), record::configured_domains(s), adapters, domains);
+    unbind(
+        q,
+        record::configured_adapters(s),
+        record::configured_domains(s),
+        adapters,
+        domains,
+    );
     record::put_configuration(s, c);
     Answer::Done
 }
 
 // Clears the drivers of the queues that were configured and are not any more.
-fn unbind(q: &mut [u8; 65536], was_adapters: Mask, was_domains: Mask, adapters: Mask, domains: Mask) {
+fn unbind(
+    q: &mut [u8; 65536],
+    was_adapters: Mask,
+    was_domains: Mask,
+    adapters: Mask,
+    domains: Mask,
+) {
     let mut k = 0usize;
     while k < 65536 {
         let a = (k / 256 % 256) as u8;
@@ -79,5 +91,9 @@ fn unbind(q: &mut [u8; 65536], was_adapters: Mask, was_domains: Mask, adapters: 
 }
 
 fn in_product(adapters: Mask, domains: Mask, a: u8, d: u8) -> bool {
-    if adapters.has(a) { domains.has(d) } else { false }
+    if adapters.has(a) {
+        domains.has(d)
+    } else {
+        false
+    }
 }

@@ -58,10 +58,11 @@ module _ (a d a′ d′ : Bits) where
       let q = f .0 in
       let l = both-left (inProduct a d) (inProduct a′ d′) q (f .2) in
       let r = both-right (inProduct a d) (inProduct a′ d′) q (f .2) in
-      and-eq-true-iff (someBelow 256 (both a a′)) (someBelow 256 (both d d′)) .1
-      (some-intro 256 (both a a′) (q / 256) (div-lt-iff-lt-mul (lit< tt) .1 (f .1))
-      (in-both a a′ (q / 256) (product-apid a d q l) (product-apid a′ d′ q r)),
-      some-intro 256 (both d d′) (q % 256) (mod-lt q (lit< tt)) (in-both d d′ (q % 256) (product-apqi a d q l) (product-apqi a′ d′ q r)))
+      and-eq-true-iff (someBelow 256 (both a a′)) (someBelow 256 (both d d′)) .1 (
+        some-intro 256 (both a a′) (q / 256) (div-lt-iff-lt-mul (lit< tt) .1 (f .1))
+            (in-both a a′ (q / 256) (product-apid a d q l) (product-apid a′ d′ q r)),
+        some-intro 256 (both d d′) (q % 256) (mod-lt q (lit< tt)) (in-both d d′ (q % 256) (product-apqi a d q l) (product-apqi a′ d′ q r)),
+      )
 
   back : (someBelow 256 (both a a′) && someBelow 256 (both d d′)) ≡ true → someBelow queues (both (inProduct a d) (inProduct a′ d′)) ≡ true
   back e =

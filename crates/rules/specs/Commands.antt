@@ -138,6 +138,10 @@ paired Adapter n v = inProduct (single n) (v .domains)
 paired Domain n v = inProduct (v .adapters) (single n)
 paired Control n v = noBits
 
+-- the queues that a number would add to a device's product
+unfoldable pub adds : Kind → ℕ → Device → Bits
+adds k n v q = product (withNumbers k (included n (numbersOf k v)) v) q && not (product v q)
+
 -- a queue to be added is reserved: EADDRNOTAVAIL; then: is assigned elsewhere: EADDRINUSE
 unfoldable pub adding : Bits → ℕ → State → State → Outcome State
 adding new p s t =

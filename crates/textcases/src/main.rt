@@ -65,8 +65,14 @@ fn hand_masks() {
     mask(b"0x41", Mask::full());
     mask(b"0xffff", Mask::empty());
     mask(b"0x40", Mask::empty());
-    mask(b"0x7dffffffffffffffffffffffffffffffffffffffffffffffffffffffffffffff", Mask::empty());
-    mask(b"0x7DFFFFFFFFFFFFFFFFFFFFFFFFFFFFFFFFFFFFFFFFFFFFFFFFFFFFFFFFFFFFFF\n", Mask::empty());
+    mask(
+        b"0x7dffffffffffffffffffffffffffffffffffffffffffffffffffffffffffffff",
+        Mask::empty(),
+    );
+    mask(
+        b"0x7DFFFFFFFFFFFFFFFFFFFFFFFFFFFFFFFFFFFFFFFFFFFFFFFFFFFFFFFFFFFFFF\n",
+        Mask::empty(),
+    );
     mask(b"+0", Mask::empty());
     mask(b"-13", Mask::full());
     mask(b"+0x41", Mask::empty());

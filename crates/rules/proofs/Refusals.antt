@@ -1,0 +1,149 @@
+-- Demand 2's sentence: an assignment to a known device, in range, is refused exactly when a pair that it would add to the
+-- product is reserved for the host or assigned to another device.
+-- Assumes nothing.
+use Prim.Native.Nat.{ℕ, _≤_, _<_, _/_, _%_}
+use native.Mathlib.Omega.{arith}
+use mathlib.Core.Bool.{Bool, true, false, cond, not, _&&_, _||_, true≢false, false≢true, and-eq-true-iff, and-not-self}
+use mathlib.Core.List.{List}
+use mathlib.Core.Path.{_≡_, refl, sym, ap, ap₂, subst, _∙_, fun-ext}
+use mathlib.Core.Logic.{_↔_, _⊎_, inl, inr}
+use lib.Dec.{eqb, ltb, leb}
+use borrow.Author.Tests.{lt-ltb, le-leb, eqb-true}
+use Rattle.errno.specs.Outcome.{Outcome, granted, refused}
+use Rattle.mask.specs.Bits.{Bits, someBelow, both, noBits, included}
+use Rattle.mask.proofs.Laws.{some-elim, some-intro, some-none}
+use Rattle.number.specs.Text.{numberText}
+use Rattle.rules.specs.declared.Id.{Id}
+use Rattle.rules.specs.declared.Kind.{Kind}
+use Rattle.rules.specs.declared.Kind.the-variants.{Adapter, Domain, Control}
+use Rattle.rules.specs.State.{Device, Devices, State, places, queues, inProduct}
+use Rattle.rules.specs.Queues.{reserved}
+use Rattle.rules.specs.Commands.{errnoOf, placeOf, product, assignedElsewhere, reading, onDevice, numbersOf, withNumbers, limitOf, single, paired, adds, adding, assignAt, assign, withDevice, sameId, firstFrom}
+use Rattle.rules.proofs.Places.{first-holds}
+use Rattle.rules.proofs.Products.{both-left, both-right, in-both}
+
+-- ---- what a new number adds is what it pairs with
+
+new-adapter : (e a d : Bool) → (e ≡ true → a ≡ false) → (((e || a) && d) && not (a && d)) ≡ (e && d)
+new-adapter true true d h = absurd (true≢false (h refl))
+new-adapter true false true h = refl
+new-adapter true false false h = refl
+new-adapter false a d h = and-not-self (a && d)
+
+new-domain : (e a d : Bool) → (e ≡ true → d ≡ false) → ((a && (e || d)) && not (a && d)) ≡ (a && e)
+new-domain true true true h = absurd (true≢false (h refl))
+new-domain true true false h = refl
+new-domain true false d h = refl
+new-domain false true true h = refl
+new-domain false true false h = refl
+new-domain false false d h = refl
+
+-- the place of a known id holds a device
+pub place-present : (i : Id) (vs : Devices) → placeOf i vs < places → vs (placeOf i vs) .present ≡ true
+unfolding placeOf
+place-present i vs h =
+    let p = firstFrom places 0 (λ p. vs p .present && sameId i (vs p .id)) in
+    and-eq-true-iff (vs p .present) (sameId i (vs p .id)) .0 (first-holds places 0 (λ p. vs p .present && sameId i (vs p .id)) (omega arith)) .0
+
+adds-paired : (k : Kind) (n : ℕ) (v : Device) → v .present ≡ true → numbersOf k v n ≡ false → (q : ℕ) → adds k n v q ≡ paired k n v q
+unfolding adds paired product withNumbers numbersOf inProduct single included noBits
+adds-paired Adapter n v e h q =
+    ap (λ (b : Bool). (b && ((eqb (q / 256) n || v .adapters (q / 256)) && v .domains (q % 256))) && not (b && (v .adapters (q / 256) && v .domains (q % 256)))) e
+    ∙ new-adapter (eqb (q / 256) n) (v .adapters (q / 256)) (v .domains (q % 256)) (λ t. ap (v .adapters) (eqb-true (q / 256) n t) ∙ h)
+adds-paired Domain n v e h q =
+    ap (λ (b : Bool). (b && (v .adapters (q / 256) && (eqb (q % 256) n || v .domains (q % 256)))) && not (b && (v .adapters (q / 256) && v .domains (q % 256)))) e
+    ∙ new-domain (eqb (q % 256) n) (v .adapters (q / 256)) (v .domains (q % 256)) (λ t. ap (v .domains) (eqb-true (q % 256) n t) ∙ h)
+adds-paired Control n v e h q = and-not-self (v .present && (v .adapters (q / 256) && v .domains (q % 256)))
+
+-- a number that is assigned adds nothing
+absorbed : (n : ℕ) (m : Bits) → m n ≡ true → included n m ≡ m
+unfolding included
+absorbed n m h = fun-ext (λ i. go i (eqb i n) refl)
+  where
+    go : (i : ℕ) (b : Bool) → eqb i n ≡ b → (b || m i) ≡ m i
+    go i true e = sym (ap m (eqb-true i n e) ∙ h)
+    go i false e = refl
+
+same-numbers : (k : Kind) (v : Device) → withNumbers k (numbersOf k v) v ≡ v
+unfolding withNumbers numbersOf
+same-numbers Adapter v = refl
+same-numbers Domain v = refl
+same-numbers Control v = refl
+
+adds-none : (k : Kind) (n : ℕ) (v : Device) → numbersOf k v n ≡ true → (q : ℕ) → adds k n v q ≡ false
+unfolding adds
+adds-none k n v h q =
+    ap (λ (m : Bits). product (withNumbers k m v) q && not (product v q)) (absorbed n (numbersOf k v) h)
+    ∙ ap (λ (u : Device). product u q && not (product v q)) (same-numbers k v)
+    ∙ and-not-self (product v q)
+
+-- ---- the sentence
+
+-- a pair that would be added, and that the host or another device has
+unfoldable pub Clash : Kind → ℕ → ℕ → State → Type 0
+Clash k n p s =
+    (q : ℕ) × (q < queues) × (adds k n (s .device p) q ≡ true) × ((reserved (s .host) q ≡ true) ⊎ (assignedElsewhere p (s .device) q ≡ true))
+
+module _ (k : Kind) (n p : ℕ) (s : State) (e : s .device p .present ≡ true) where
+  new : Bits
+  new = paired k n (s .device p)
+
+  added : State
+  added = withDevice p (withNumbers k (included n (numbersOf k (s .device p))) (s .device p)) s
+
+  -- on what the tests of `adding` find
+  clashes : numbersOf k (s .device p) n ≡ false → (x y : Bool) → someBelow queues (both new (reserved (s .host))) ≡ x
+      → someBelow queues (both new (assignedElsewhere p (s .device))) ≡ y
+      → ((errnoOf (cond x (refused 99) (cond y (refused 98) (granted added))) ≡ 0 → ⊥) ↔ Clash k n p s)
+  unfolding errnoOf Clash new
+  clashes h true y hx hy = (
+    λ f. let g = some-elim queues (both new (reserved (s .host))) hx in (
+      g .0,
+      g .1,
+      adds-paired k n (s .device p) e h (g .0) ∙ both-left new (reserved (s .host)) (g .0) (g .2),
+      inl (both-right new (reserved (s .host)) (g .0) (g .2)),
+    ),
+    λ c z. omega arith,
+  )
+  clashes h false true hx hy = (
+    λ f. let g = some-elim queues (both new (assignedElsewhere p (s .device))) hy in (
+      g .0,
+      g .1,
+      adds-paired k n (s .device p) e h (g .0) ∙ both-left new (assignedElsewhere p (s .device)) (g .0) (g .2),
+      inr (both-right new (assignedElsewhere p (s .device)) (g .0) (g .2)),
+    ),
+    λ c z. omega arith,
+  )
+  clashes h false false hx hy = (
+    λ f. absurd (f refl),
+    λ c z. none c (c .3),
+  )
+    where
+      none : (c : (q : ℕ) × (q < queues) × (adds k n (s .device p) q ≡ true) × ((reserved (s .host) q ≡ true) ⊎ (assignedElsewhere p (s .device) q ≡ true)))
+          → (reserved (s .host) (c .0) ≡ true) ⊎ (assignedElsewhere p (s .device) (c .0) ≡ true) → ⊥
+      none c (inl r) =
+          true≢false (sym (in-both new (reserved (s .host)) (c .0) (sym (adds-paired k n (s .device p) e h (c .0)) ∙ c .2) r)
+          ∙ some-none queues (both new (reserved (s .host))) hx (c .0) (c .1))
+      none c (inr r) =
+          true≢false (sym (in-both new (assignedElsewhere p (s .device)) (c .0) (sym (adds-paired k n (s .device p) e h (c .0)) ∙ c .2) r)
+          ∙ some-none queues (both new (assignedElsewhere p (s .device))) hy (c .0) (c .1))
+
+  at-place : (b : Bool) → numbersOf k (s .device p) n ≡ b
+      → ((errnoOf (cond b (granted s) (adding new p s added)) ≡ 0 → ⊥) ↔ Clash k n p s)
+  unfolding errnoOf Clash adding
+  at-place true h = (λ f. absurd (f refl), λ c z. true≢false (sym (c .2) ∙ adds-none k n (s .device p) h (c .0)))
+  at-place false h =
+      clashes h (someBelow queues (both new (reserved (s .host)))) (someBelow queues (both new (assignedElsewhere p (s .device)))) refl refl
+
+-- an assignment to a known device, in range
+pub refused-exactly : (k : Kind) (i : Id) (text : List ℕ) (s : State) (n : ℕ) → numberText text ≡ granted n → placeOf i (s .device) < places
+    → n ≤ limitOf k (s .limits) → ((errnoOf (assign k i text s) ≡ 0 → ⊥) ↔ Clash k n (placeOf i (s .device)) s)
+unfolding assign reading onDevice assignAt new added
+refused-exactly k i text s n t h l =
+    let p = placeOf i (s .device) in
+    subst (λ (o : Outcome ℕ). (errnoOf (reading o (λ m. cond (ltb p places) (cond (leb m (limitOf k (s .limits))) (assignAt k m p s) (refused 19)) (refused 2))) ≡ 0 → ⊥) ↔ Clash k n p s)
+    (sym t)
+    (subst (λ (b : Bool). (errnoOf (cond b (cond (leb n (limitOf k (s .limits))) (assignAt k n p s) (refused 19)) (refused 2)) ≡ 0 → ⊥) ↔ Clash k n p s)
+    (sym (lt-ltb p places h))
+    (subst (λ (b : Bool). (errnoOf (cond b (assignAt k n p s) (refused 19)) ≡ 0 → ⊥) ↔ Clash k n p s) (sym (le-leb n (limitOf k (s .limits)) l))
+    (at-place k n p s (place-present i (s .device) h) (numbersOf k (s .device p) n) refl)))
