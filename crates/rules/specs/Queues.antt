@@ -6,6 +6,8 @@ use lib.Dec.{eqb, leb}
 use Rattle.mask.specs.Bits.{Bits, someBelow, both}
 use Rattle.rules.specs.declared.Driver.{Driver}
 use Rattle.rules.specs.declared.Driver.the-variants.{Unbound, Host, Passthrough}
+use Rattle.rules.specs.declared.Matrix.{Matrix}
+use Rattle.rules.specs.declared.Matrix.the-variants.{Assigned, Guest}
 use Rattle.rules.specs.declared.Moved.{Moved}
 use Rattle.rules.specs.declared.Moved.the-variants.{Idle, Released, BoundHost, BoundPassthrough}
 use Rattle.rules.specs.State.{State, HostMasks, Config, Device, inProduct, apid, apqi, queues}
@@ -129,6 +131,21 @@ guestAdapters s v a =
 -- guest masks: the control domains
 unfoldable pub guestControls : State → Device → Bits
 guestControls s v = both (v .controls) (s .config .controls)
+
+-- the adapters of a device's matrix
+unfoldable pub matrixAdapters : Matrix → State → Device → Bits
+matrixAdapters Assigned s v = v .adapters
+matrixAdapters Guest s v = guestAdapters s v
+
+-- the domains of a device's matrix
+unfoldable pub matrixDomains : Matrix → State → Device → Bits
+matrixDomains Assigned s v = v .domains
+matrixDomains Guest s v = guestDomains s v
+
+-- the control domains of a device's matrix
+unfoldable pub matrixControls : Matrix → State → Device → Bits
+matrixControls Assigned s v = v .controls
+matrixControls Guest s v = guestControls s v
 
 -- a guest can use a queue
 unfoldable pub usable : State → Device → Bits

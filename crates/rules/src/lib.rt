@@ -26,6 +26,12 @@ pub enum Kind {
     Control,
 }
 
+// A device's two matrices: what is assigned to it, and what its guest gets.
+pub enum Matrix {
+    Assigned,
+    Guest,
+}
+
 // What a command answers.
 pub enum Answer {
     Done,
@@ -44,4 +50,11 @@ pub struct Configuration {
     pub domains: Mask,
     pub controls: Mask,
     pub types: [u8; 256],
+}
+
+// Adapters, domains and control domains of a matrix.
+pub struct Masks {
+    pub adapters: Mask,
+    pub domains: Mask,
+    pub controls: Mask,
 }
