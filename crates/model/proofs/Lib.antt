@@ -1,0 +1,4 @@
+pub mod Agreement
+pub mod Exclusion
+pub mod Settling
+pub mod Demand
