@@ -3,8 +3,8 @@
 // Rests on mask.
 use mask::Mask;
 ghost use mathlib.Core.Path.{_≡_};
-ghost use Prim.Native.Nat.{_%_, _<_};
-ghost use Rattle.mask.specs.Bits.{bits, bitAt, either, group, numbers};
+ghost use Prim.Native.Nat.{_+_, _-_, _*_, _/_, _%_, _^_, _<_};
+ghost use Rattle.mask.specs.Bits.{bits, bitAt, either, group, number, numbers};
 
 // With the bits of one group of four also set as in the number v: group 0 is bits 0 to 3.
 pub fn with_nibble(m: Mask, g: u8, v: u8) -> Mask
@@ -40,18 +40,26 @@ pub fn from_bytes(b: [u8; 32]) -> Mask
 }
 
 // Byte i of a mask, whose word i / 8 is w.
-fn byte_of(w: u64, i: usize) -> u8 {
+fn byte_of(w: u64, i: usize) -> u8
+    ensures { λ r. ⌜ r ≡ w / 2 ^ (56 - 8 * (i % 8)) % 256 ⌝ }
+{
     ((w >> (56 - 8 * (i % 8) as u32)) % 256) as u8
 }
 
 // Word q of a mask, from its eight bytes.
 fn word_of(b: [u8; 32], q: usize) -> u64
     requires { ⌜ q < 4 ⌝ }
+    ensures { λ r. ⌜ r ≡ number 64 (bitAt 8 b) (q * 64) ⌝ }
 {
     let i = 8 * q;
-    let hi = ((b[i] as u64 * 256 + b[i + 1] as u64) * 256 + b[i + 2] as u64) * 256
-        + b[i + 3] as u64;
-    let lo = ((b[i + 4] as u64 * 256 + b[i + 5] as u64) * 256 + b[i + 6] as u64) * 256
-        + b[i + 7] as u64;
+    let hi = four(b[i], b[i + 1], b[i + 2], b[i + 3]);
+    let lo = four(b[i + 4], b[i + 5], b[i + 6], b[i + 7]);
     hi * 4294967296 + lo
+}
+
+// The number that has these four bytes, the first of which is the most significant.
+fn four(a: u8, b: u8, c: u8, d: u8) -> u64
+    ensures { λ r. ⌜ (r ≡ ((a * 256 + b) * 256 + c) * 256 + d) × (r < 4294967296) ⌝ }
+{
+    ((a as u64 * 256 + b as u64) * 256 + c as u64) * 256 + d as u64
 }

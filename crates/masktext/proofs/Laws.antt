@@ -1,23 +1,26 @@
 -- Laws of the text of a mask: its parts between commas, its items, its hex digits.
 -- Assumes nothing.
-use Prim.Native.Nat.{ℕ, zero, suc, _+_, _-_, _/_, _%_, _^_, _<_, _≤_}
-use native.Mathlib.Nat.{zero-div}
+use Prim.Native.Nat.{ℕ, zero, suc, _+_, _-_, _/_, _%_, _<_, _≤_}
+use native.Mathlib.Nat.{eq-or-lt-of-le}
 use native.Mathlib.Numerals.{add-one}
 use native.Mathlib.Omega.{arith}
-use mathlib.Core.Bool.{Bool, true, false, cond, _&&_, _||_}
+use mathlib.Core.Bool.{Bool, true, false, cond, not, _&&_, _||_, or-false, true≢false}
 use mathlib.Core.List.{List, [], _∷_, _++_, map, map-append, append-nil}
+use mathlib.Core.Logic.{_⊎_, inl, inr}
 use mathlib.Core.Path.{_≡_, refl, sym, ap, _∙_, fun-ext}
 use lib.ListN.{length, getD, take, drop, length-drop, length-map, take-append-drop, drop-of-length-le}
 use lib.Seq.{length-take-le, take-all, drop-cons, take-suc, getD-take, getD-drop, drop-drop}
 use lib.Dec.{ltb, eqb, eqb·zero-suc, eqb·suc-zero, eqb·suc-suc}
 use borrow.Author.Tests.{le-leb, lt-leb, ne-eqb}
 use Rattle.errno.specs.Outcome.{granted, refused}
-use Rattle.mask.specs.Bits.{Bits, digit, bitAt, noBits, either, group}
+use Rattle.mask.specs.Bits.{Bits, bits, digit, bitAt, noBits, either, group}
+use Rattle.mask.proofs.Bit.{digit-zero}
 use Rattle.number.specs.Text.{digitOf, numberRule}
-use Rattle.masktext.specs.Text.{allHex, hexMask, signed, item, andThen, items, before, parts}
+use Rattle.masktext.specs.declared.MaskRead.{MaskRead}
+use Rattle.masktext.specs.Text.{outcome, allHex, hexMask, signed, item, andThen, items, before, parts}
 
 -- no byte of a text is a comma
-abbrev pub NoComma : List ℕ → Type 0
+abbrev NoComma : List ℕ → Type 0
 NoComma p = (k : ℕ) → k < length p → getD p k 0 ≡ 44 → ⊥
 
 -- bytes before the first part
@@ -41,19 +44,19 @@ before-onto c p [] = refl
 before-onto c p (q ∷ qs) = refl
 
 -- bytes with no comma go before the first part of the rest
-pub parts-onto : (p rest : List ℕ) → NoComma p → parts (p ++ rest) ≡ onto p (parts rest)
+parts-onto : (p rest : List ℕ) → NoComma p → parts (p ++ rest) ≡ onto p (parts rest)
 unfolding parts
 parts-onto [] rest h = sym (parts-some rest)
 parts-onto (c ∷ cs) rest h =
     rw (ne-eqb c 44 (h 0 (omega arith)), parts-onto cs rest (λ k l. h (suc k) (omega arith))) (before-onto c cs (parts rest))
 
 -- a text with no comma is one part
-pub parts-last : (p : List ℕ) → NoComma p → parts p ≡ p ∷ []
+parts-last : (p : List ℕ) → NoComma p → parts p ≡ p ∷ []
 unfolding parts onto
 parts-last p h = rw append-nil at (parts-onto p [] h)
 
 -- a text up to its first comma is its first part
-pub parts-comma : (p rest : List ℕ) → NoComma p → parts (p ++ 44 ∷ rest) ≡ p ∷ parts rest
+parts-comma : (p rest : List ℕ) → NoComma p → parts (p ++ 44 ∷ rest) ≡ p ∷ parts rest
 unfolding parts onto
 parts-comma p rest h = parts-onto p (44 ∷ rest) h ∙ ap (λ (q : List ℕ). q ∷ parts rest) (append-nil p)
 
@@ -63,12 +66,12 @@ none-in s at e h l n k b q =
     let z : length (take (e - at) (drop at s)) ≡ e - at = length-take-le (e - at) (drop at s) (simp length-drop (omega arith)) in
     n (at + k) (omega arith) (omega arith) (sym (getD-take (e - at) (drop at s) k 0 (omega arith) ∙ getD-drop at s k 0) ∙ q)
 
--- the text from an index on, with no comma after it
-pub parts-at-end : (s : List ℕ) (at : ℕ) → at ≤ length s → ((k : ℕ) → k < length s → at ≤ k → getD s k 0 ≡ 44 → ⊥)
-    → parts (drop at s) ≡ take (length s - at) (drop at s) ∷ []
-parts-at-end s at h n =
-    let q : take (length s - at) (drop at s) ≡ drop at s = take-all (length s - at) (drop at s) (simp length-drop (omega arith)) in
-    rw q (parts-last (drop at s) (rw q at (none-in s at (length s) h (omega arith) n)))
+-- the text from an index on, with no comma before its end e
+pub parts-at-end : (s : List ℕ) (at e : ℕ) → at ≤ e → e ≡ length s → ((k : ℕ) → k < e → at ≤ k → getD s k 0 ≡ 44 → ⊥)
+    → parts (drop at s) ≡ take (e - at) (drop at s) ∷ []
+parts-at-end s at e h l n =
+    let q : take (e - at) (drop at s) ≡ drop at s = take-all (e - at) (drop at s) (simp length-drop (omega arith)) in
+    rw q (parts-last (drop at s) (rw q at (none-in s at e h (omega arith) n)))
 
 -- the text from an index on, with its next comma at e
 pub parts-at-comma : (s : List ℕ) (at e : ℕ) → at ≤ e → e < length s → getD s e 0 ≡ 44 → ((k : ℕ) → k < e → at ≤ k → getD s k 0 ≡ 44 → ⊥)
@@ -85,6 +88,33 @@ parts-at-comma s at e h l c n =
     split : drop at s ≡ take (e - at) (drop at s) ++ 44 ∷ drop (e + 1) s
     split = sym (take-append-drop (e - at) (drop at s)) ∙ ap (λ (q : List ℕ). take (e - at) (drop at s) ++ q) rest
 
+-- the text from an index on, up to a comma or its end
+pub parts-at : (s : List ℕ) (at e : ℕ) → at ≤ e → e ≤ length s → ((k : ℕ) → k < e → at ≤ k → getD s k 0 ≡ 44 → ⊥) → (e < length s → getD s e 0 ≡ 44)
+    → (ps : List (List ℕ)) × (parts (drop at s) ≡ take (e - at) (drop at s) ∷ ps)
+parts-at s at e h l n f = go (eq-or-lt-of-le l)
+  where
+    go : (e ≡ length s) ⊎ (e < length s) → (ps : List (List ℕ)) × (parts (drop at s) ≡ take (e - at) (drop at s) ∷ ps)
+    go (inl q) = ([], parts-at-end s at e h q n)
+    go (inr q) = (parts (drop (e + 1) s), parts-at-comma s at e h q (f q) n)
+
+-- what a bad answer and a good one come to
+module _ (r : MaskRead) where
+  pub outcome-bad : not (r .good) ≡ true → outcome r ≡ refused 22
+  unfolding outcome
+  outcome-bad e = go (r .good) e
+    where
+      go : (b : Bool) → not b ≡ true → cond b (granted (bits (r .mask))) (refused 22) ≡ refused 22
+      go true e = absurd (true≢false (sym e))
+      go false e = refl
+
+  pub outcome-good : not (r .good) ≡ false → outcome r ≡ granted (bits (r .mask))
+  unfolding outcome
+  outcome-good e = go (r .good) e
+    where
+      go : (b : Bool) → not b ≡ false → cond b (granted (bits (r .mask))) (refused 22) ≡ granted (bits (r .mask))
+      go true e = refl
+      go false e = absurd (true≢false e)
+
 -- an item that is granted goes on with the rest
 pub items-good : (m n : Bits) (p : List ℕ) (ps : List (List ℕ)) → item m p ≡ granted n → items m (p ∷ ps) ≡ items n ps
 unfolding items andThen
@@ -96,10 +126,10 @@ unfolding items andThen
 items-bad m p ps e = rw e
 
 -- an item with a byte or more is its sign and its number
-pub item-some : (m : Bits) (s : List ℕ) → 0 < length s → item m s ≡ signed (getD s 0 0) m (numberRule 255 (drop 1 s))
+pub item-some : (m : Bits) (s : List ℕ) → 0 < length s → item m s ≡ signed (getD s 0 0) m (numberRule 255 (take (length s - 1) (drop 1 s)))
 unfolding item
 item-some m [] h = absurd (omega arith)
-item-some m (c ∷ cs) h = refl
+item-some m (c ∷ cs) h = rw (take-all (length (c ∷ cs) - 1) cs (omega arith))
 
 pub item-none : (m : Bits) (s : List ℕ) → length s ≡ 0 → item m s ≡ refused 22
 unfolding item
@@ -132,14 +162,6 @@ pub hex-right : (ds : List ℕ) → 1 ≤ length ds → length ds ≤ 64 → all
 unfolding hexMask
 hex-right ds h l e = rw (le-leb 1 (length ds) h, le-leb (length ds) 64 l, e)
 
-digit-zero : (k : ℕ) → digit 0 k ≡ false
-unfolding digit
-digit-zero k = ap (λ (x : ℕ). eqb (x % 2) 1) (zero-div (2 ^ k))
-
-or-false : (b : Bool) → b ≡ b || false
-or-false true = refl
-or-false false = refl
-
 -- no numbers have no bits
 pub bits-none : (w : ℕ) → bitAt w [] ≡ noBits
 unfolding bitAt noBits
@@ -147,12 +169,12 @@ bits-none w = fun-ext (λ i. digit-zero (w - 1 - i % w))
 
 more : (v k : ℕ) (xs : List ℕ) (g : ℕ) → digit (getD (xs ++ (v ∷ [])) g 0) k ≡ digit (getD xs g 0) k || (eqb g (length xs) && digit v k)
 more v k [] zero = rw digit-zero
-more v k [] (suc g) = rw eqb·suc-zero (or-false (digit 0 k))
-more v k (x ∷ xs) zero = rw eqb·zero-suc (or-false (digit x k))
+more v k [] (suc g) = rw eqb·suc-zero (sym (or-false (digit 0 k)))
+more v k (x ∷ xs) zero = rw eqb·zero-suc (sym (or-false (digit x k)))
 more v k (x ∷ xs) (suc g) = rw eqb·suc-suc (more v k xs g)
 
 -- one number more sets the bits of the next group
-pub bits-more : (w : ℕ) (xs : List ℕ) (v : ℕ) → bitAt w (xs ++ (v ∷ [])) ≡ either (bitAt w xs) (group w (length xs) v)
+bits-more : (w : ℕ) (xs : List ℕ) (v : ℕ) → bitAt w (xs ++ (v ∷ [])) ≡ either (bitAt w xs) (group w (length xs) v)
 unfolding bitAt either group
 bits-more w xs v = fun-ext (λ i. more v (w - 1 - i % w) xs (i / w))
 

@@ -5,9 +5,11 @@ use mask::Mask;
 ghost use mathlib.Core.Path.{_≡_};
 ghost use Prim.Native.Nat.{ℕ, _<_, _≤_};
 ghost use mathlib.Core.Bool.{false};
-ghost use lib.ListN.{length, getD};
+ghost use lib.ListN.{length, getD, drop};
+ghost use Rattle.errno.specs.Outcome.{granted, refused};
 ghost use Rattle.mask.specs.Bits.{bits};
-ghost use Rattle.masktext.specs.Text.{outcome, maskText};
+ghost use Rattle.masktext.specs.Text.{outcome, hexMask, parts, maskText};
+ghost use Rattle.masktext.specs.Text as Text;
 
 // What reading a text finds: the new mask, or the old one where the text is bad.
 pub struct MaskRead {
@@ -29,7 +31,10 @@ pub fn parse(s: &[u8], old: Mask) -> MaskRead
 }
 
 // The hex digits of s after its first two bytes.
-fn hex_mask(s: &[u8], old: Mask) -> MaskRead {
+fn hex_mask(s: &[u8], old: Mask) -> MaskRead
+    ensures { λ r. ⌜ outcome r ≡ hexMask (drop 2 (now (s .entry))) ⌝ }
+    ensures { λ r. ⌜ (r .good ≡ false → r .mask ≡ old) ⌝ }
+{
     if s.len() < 3 {
         return bad(old);
     }
@@ -52,7 +57,10 @@ fn hex_mask(s: &[u8], old: Mask) -> MaskRead {
     }
 }
 
-fn bad(old: Mask) -> MaskRead {
+fn bad(old: Mask) -> MaskRead
+    ensures { λ r. ⌜ outcome r ≡ refused 22 ⌝ }
+    ensures { λ r. ⌜ (r .good ≡ false → r .mask ≡ old) ⌝ }
+{
     MaskRead {
         good: false,
         mask: old,
@@ -60,7 +68,10 @@ fn bad(old: Mask) -> MaskRead {
 }
 
 // The items of s, worked on the old mask.
-fn items(s: &[u8], old: Mask) -> MaskRead {
+fn items(s: &[u8], old: Mask) -> MaskRead
+    ensures { λ r. ⌜ outcome r ≡ Text.items (bits old) (parts (now (s .entry))) ⌝ }
+    ensures { λ r. ⌜ (r .good ≡ false → r .mask ≡ old) ⌝ }
+{
     let mut m = old;
     let mut at = 0usize;
     loop {
@@ -98,7 +109,10 @@ fn comma(s: &[u8], from: usize) -> usize
 }
 
 // One item, worked on a mask.
-fn item(s: &[u8], m: Mask) -> MaskRead {
+fn item(s: &[u8], m: Mask) -> MaskRead
+    ensures { λ r. ⌜ outcome r ≡ Text.item (bits m) (now (s .entry)) ⌝ }
+    ensures { λ r. ⌜ (r .good ≡ false → r .mask ≡ m) ⌝ }
+{
     if s.len() == 0 {
         return bad(m);
     }
@@ -108,7 +122,10 @@ fn item(s: &[u8], m: Mask) -> MaskRead {
     }
 }
 
-fn signed(sign: u8, n: u8, m: Mask) -> MaskRead {
+fn signed(sign: u8, n: u8, m: Mask) -> MaskRead
+    ensures { λ r. ⌜ outcome r ≡ Text.signed sign (bits m) (granted n) ⌝ }
+    ensures { λ r. ⌜ (r .good ≡ false → r .mask ≡ m) ⌝ }
+{
     if sign == b'+' {
         return MaskRead {
             good: true,

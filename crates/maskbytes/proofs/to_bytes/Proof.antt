@@ -1,0 +1,76 @@
+-- `to_bytes` meets its contract. The invariant: each byte up to i is packed from the bits of its place.
+-- Assumes nothing.
+use Prim.Native.Nat.{ℕ, _-_, _*_, _≤_, _<_}
+use native.Mathlib.Nat.{zero-add}
+use native.Mathlib.Omega.{arith}
+use mathlib.Core.Path.{_≡_, ap, sym, _∙_}
+use lib.ListN.{length, getD, set}
+use lib.Seq.{ext-getD, getD-set-same, getD-set-other}
+use borrow.Author.Count.{below-more}
+use Rattle.mask.specs.Bits.{bits, bitAt, number, numbers}
+use Rattle.mask.proofs.Laws.{Words, numbers-words, numbers-at}
+use Rattle.maskbytes.proofs.Laws.{byte-at}
+use borrow.Author.Needs.{needs}
+use Rattle.maskbytes.proofs.to_bytes.Statement.{statement}
+use Rattle.maskbytes.proofs.to_bytes.Tie as tie
+
+abbrev Inv-loop : tie.InvT-loop
+Inv-loop w out₀ i₀ out i = (i ≤ 32) × (length out ≡ 32) × ((q : ℕ) → q < i → getD out q 0 ≡ number 8 (bitAt 64 w) (q * 8))
+
+abbrev μ-loop : tie.MeasureT-loop
+μ-loop w out₀ i₀ out i = 32 - i
+
+loop-holds : tie.Need-loop-holds Inv-loop μ-loop
+loop-holds c = search needs
+
+mul-byte-of : tie.Need-mul-byte-of Inv-loop μ-loop
+mul-byte-of c = search needs
+
+array-read-byte-of : tie.Need-array-read-byte-of Inv-loop μ-loop
+array-read-byte-of c = search needs
+
+byte-of-requires : tie.Need-byte-of-requires Inv-loop μ-loop
+byte-of-requires c κs = search needs
+
+array-write-out : tie.Need-array-write-out Inv-loop μ-loop
+array-write-out c = search needs
+
+add-i : tie.Need-add-i Inv-loop μ-loop
+add-i c = search needs
+
+loop-less : tie.Need-loop-less Inv-loop μ-loop
+loop-less c = search needs
+
+loop-again : tie.Need-loop-again Inv-loop μ-loop
+loop-again c =
+    let l = c .before .before .loop in
+    let kept : (q : ℕ) → q < l .i → getD (set (l .out) (l .i) (c .byte-of .result)) q 0 ≡ getD (l .out) q 0 = λ q h. getD-set-other (l .out) (l .i) q (c .byte-of .result) 0 (omega arith) in (
+      search needs,
+      search needs,
+      below-more _ _
+          (λ q h. kept q h ∙ l .inv .2 q h)
+          (getD-set-same (l .out) (l .i) (c .byte-of .result) 0 (omega arith) ∙ c .byte-of .ensures ∙ byte-at (l .i) (c .before .before .before .before .args .m .words)),
+    )
+
+returns : tie.Need-returns Inv-loop μ-loop
+returns c =
+    let m = c .before .before .before .args .m in
+    let packed : Words 8 32 (numbers 8 32 (bits m) 0) = numbers-words 8 32 (bits m) 0 in
+    ext-getD 0 (c .before .loop .out) (numbers 8 32 (bits m) 0) (omega (arith, packed .long))
+    (λ q l. c .before .loop .inv .2 q (omega arith) ∙ ap (number 8 (bits m)) (sym (zero-add (q * 8))) ∙ sym (numbers-at 8 32 (bits m) 0 q (omega arith)))
+
+pub to-bytes-spec : {M : Type 1} → statement M
+to-bytes-spec =
+    tie.close
+    (tie.spec
+    Inv-loop
+    μ-loop
+    loop-holds
+    mul-byte-of
+    array-read-byte-of
+    byte-of-requires
+    array-write-out
+    add-i
+    loop-less
+    loop-again
+    returns)
