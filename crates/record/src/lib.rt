@@ -222,7 +222,9 @@ fn put_types(s: &mut [u64; WORDS], adapters: Mask, types: [u8; 256])
     }
 }
 
-fn type_of(configured: bool, t: u8) -> u64 {
+fn type_of(configured: bool, t: u8) -> u64
+    ensures { λ r. ⌜ r ≡ cond configured t 0 ⌝ }
+{
     if configured { t as u64 } else { 0 }
 }
 
