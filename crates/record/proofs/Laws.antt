@@ -1,17 +1,17 @@
 -- The record's parts, read after they are put; the words of a mask; a command that is carried out.
 -- Assumes nothing.
-use Prim.Native.Nat.{ℕ, zero, suc, _+_, _-_, _*_, _^_, _≤_, _<_, min}
+use Prim.Native.Nat.{ℕ, zero, suc, _+_, _-_, _*_, _≤_, _<_, min}
 use native.Mathlib.Nat.{zero-add, le-of-suc-le-suc, not-suc-le-zero, eq-or-lt-of-le, min-eq-left}
 use native.Mathlib.Numerals.{add-one}
 use native.Mathlib.Omega.{arith}
-use mathlib.Core.Path.{_≡_, refl, sym, ap, ap₂, subst, _∙_, fun-ext}
+use mathlib.Core.Path.{_≡_, refl, sym, ap, ap₂, _∙_, fun-ext}
 use mathlib.Core.Logic.{_≢_, _⊎_, inl, inr}
-use mathlib.Core.Bool.{Bool, true, false, cond, not, _&&_}
+use mathlib.Core.Bool.{Bool, true, false, cond, not}
 use mathlib.Core.List.{List, [], _∷_}
 use lib.ListN.{length, getD, set, replicate, length-set, length-replicate, List·getD-eq-default}
 use lib.Seq.{getD-set-same, getD-set-other, set-getD, ext-getD}
 use lib.Dec.{eqb, ltb}
-use borrow.Author.Tests.{ltb-true, ltb-false, eqb-true, eqb-false, lt-ltb, le-ltb, eq-eqb, ne-eqb}
+use borrow.Author.Tests.{ltb-true, ltb-false, eqb-true, eqb-false, lt-ltb, le-ltb}
 use Rattle.errno.specs.declared.Errno.{Errno}
 use Rattle.errno.specs.declared.Errno.the-variants.{Enoent, Ebusy, Eexist, Enodev, Einval, Enospc, Eaddrinuse, Eaddrnotavail}
 use Rattle.errno.specs.Errno.{numberOf}
@@ -19,7 +19,6 @@ use Rattle.errno.specs.Outcome.{Outcome, granted, refused}
 use Rattle.mask.specs.Bits.{Bits, bits, bitAt, digit, noBits, allBits, numbers}
 use Rattle.mask.proofs.Bit.{digit-zero, digit-ones}
 use Rattle.mask.proofs.Laws.{Words, each-bits, past-end, numbers-words, numbers-bits, numbers-of-bits, below-four}
-use Rattle.rules.specs.declared.Answer.{Answer}
 use Rattle.rules.specs.declared.Answer.the-variants.{Done, Refused}
 use Rattle.rules.specs.declared.Kind.{Kind}
 use Rattle.rules.specs.declared.Kind.the-variants.{Adapter, Domain, Control}
@@ -27,11 +26,12 @@ use Rattle.rules.specs.declared.Driver.{Driver}
 use Rattle.rules.specs.declared.Driver.the-variants.{Unbound, Host, Passthrough}
 use Rattle.rules.specs.declared.Id.{Id}
 use Rattle.rules.specs.declared.Configuration.{Configuration}
-use Rattle.rules.specs.State.{Limits, HostMasks, Config, Device, State, places, queues, noDevice, fresh}
+use Rattle.rules.specs.State.{Device, State, places, queues, noDevice, fresh}
 use Rattle.rules.specs.Queues.{rebound}
 use Rattle.rules.specs.Commands.{numbersOf, withDevice, withHost, withNumbers, withOpen, newDevice, withConfig, stored, answered, errnoOf, stateAfter}
 use Rattle.record.specs.Layout.{four, maskAt, flag, driverOf, byteOf, limitsIn, hostIn, configIn, deviceIn, stateIn, wordsOf, putFour, putNumbers, putOpen, putDevice, putTypes, putConfig, freshWords, unbind, apmaskAt, aqmaskAt, configAt, typesAt, deviceAt, kindAt, noId, zeros, ones}
 use Rattle.record.specs.Carried.{Carried, takenAway}
+use Rattle.record.specs.Held.{Held}
 
 -- a choice by an order that is known
 pub cond-below : {A : Type 0} (p n : ℕ) (a b : A) → p < n → cond (ltb p n) a b ≡ a
@@ -573,6 +573,156 @@ read-rebound qs n d ws h =
     let e = fun-ext (read-driver qs n d ws h) in
     λ i. record { limits = limitsIn ws; host = hostIn ws; config = configIn ws; device = deviceIn ws; driver = e i }
 
+-- ---- a configuration
+
+-- the words with a configuration's masks put
+abbrev maskWords : List ℕ → Configuration → List ℕ
+maskWords ws c = putFour (putFour (putFour ws configAt (c .adapters .words)) (configAt + 4) (c .domains .words)) (configAt + 8) (c .controls .words)
+
+-- a stored type
+abbrev typeOf : Configuration → ℕ → ℕ
+typeOf c a = cond (bits (c .adapters) a) (getD (c .types) a 0) 0
+
+module _ (ws : List ℕ) (c : Configuration) (long : length ws ≡ 406) (wa : Words 64 4 (c .adapters .words)) (wd : Words 64 4 (c .domains .words))
+    (wc : Words 64 4 (c .controls .words)) where
+  off-config : Off 10 268 ws (putConfig ws c)
+  unfolding putConfig
+  off-config =
+      off-then
+      (off-then (off-then (wide ws 10 (c .adapters .words) (omega arith) (omega arith)) (wide (putFour ws 10 (c .adapters .words)) 14 (c .domains .words) (omega arith) (omega arith)))
+        (wide (putFour (putFour ws 10 (c .adapters .words)) 14 (c .domains .words)) 18 (c .controls .words) (omega arith) (omega arith)))
+      (off-wider 10 268 (off-types (maskWords ws c) (typeOf c) 256) (omega arith) (omega arith))
+    where
+      wide : (us : List ℕ) (k : ℕ) (m : List ℕ) → 10 ≤ k → k + 4 ≤ 278 → Off 10 268 us (putFour us k m)
+      wide us k m l h = off-wider 10 268 (off-four us k m) l (omega arith)
+
+  -- the types, the last of a configuration's words
+  config-types : (a : ℕ) → cond (ltb a 256) (getD (putConfig ws c) (22 + a) 0) 0 ≡ typeOf c a
+  unfolding putConfig
+  config-types a = go (ltb a 256) refl
+    where
+      go : (b : Bool) → ltb a 256 ≡ b → cond b (getD (putConfig ws c) (22 + a) 0) 0 ≡ typeOf c a
+      go true e = types-at (maskWords ws c) (typeOf c) 256 a (simp put-length (omega arith)) (ltb-true a 256 e)
+      go false e = ap (λ (b : Bool). cond b (getD (c .types) a 0) 0) (sym (past-end a (omega arith) wa (ltb-false a 256 e)))
+
+  config-put : configIn (putConfig ws c) ≡ stored c
+  unfolding configIn stored maskAt putConfig
+  config-put =
+      let o = off-types (maskWords ws c) (typeOf c) 256 in
+      let s1 = putFour ws 10 (c .adapters .words) in
+      let s2 = putFour s1 14 (c .domains .words) in
+      let p = four-off o 10 (inl (omega arith)) ∙ put-other s2 18 (c .controls .words) 10 (inl (omega arith)) ∙ put-other s1 14 (c .domains .words) 10 (inl (omega arith))
+        ∙ put-get ws 10 (c .adapters .words) (omega arith) (wa .long) in
+      let q = four-off o 14 (inl (omega arith)) ∙ put-other s2 18 (c .controls .words) 14 (inl (omega arith))
+        ∙ put-get s1 14 (c .domains .words) (simp put-length (omega arith)) (wd .long) in
+      let r = four-off o 18 (inl (omega arith)) ∙ put-get s2 18 (c .controls .words) (simp put-length (omega arith)) (wc .long) in
+      let t = fun-ext config-types in
+      λ i. record { adapters = bitAt 64 (p i); domains = bitAt 64 (q i); controls = bitAt 64 (r i); types = t i }
+
+  -- the drivers once those of the queues in `gone` are cleared
+  drivers-unbound : (qs : List ℕ) (gone : Bits) (n : ℕ) → length qs ≡ n → (q : ℕ)
+      → driverOf (getD (unbind qs gone n) q 0) ≡ cond (gone q) Unbound (driverOf (getD qs q 0))
+  drivers-unbound qs gone n e q = go (ltb q n) refl
+    where
+      chosen : (b : Bool) (x : ℕ) → driverOf (cond b 0 x) ≡ cond b Unbound (driverOf x)
+      chosen true x = unbound-zero
+      chosen false x = refl
+
+      go : (b : Bool) → ltb q n ≡ b → driverOf (getD (unbind qs gone n) q 0) ≡ cond (gone q) Unbound (driverOf (getD qs q 0))
+      go true h = ap driverOf (unbind-at qs gone n q (omega arith) (ltb-true q n h)) ∙ chosen (gone q) (getD qs q 0)
+      go false h =
+          let l : n ≤ q = ltb-false q n h in
+          let none : getD qs q 0 ≡ 0 = List·getD-eq-default qs 0 {n = q} (omega arith) in
+          ap driverOf (unbind-above qs gone n q l ∙ none) ∙ unbound-zero ∙ sym (cond-both (gone q) Unbound)
+          ∙ ap (λ (x : Driver). cond (gone q) Unbound x) (sym (ap driverOf none ∙ unbound-zero))
+
+  pub read-config : (qs : List ℕ) → length qs ≡ queues → stateIn (putConfig ws c) (unbind qs (takenAway ws c) queues) ≡ withConfig (stored c) (stateIn ws qs)
+  unfolding stateIn withConfig takenAway
+  read-config qs e =
+      same-state (stateIn (putConfig ws c) (unbind qs (takenAway ws c) queues)) (withConfig (stored c) (stateIn ws qs)) (limits-off off-config (omega arith))
+      (host-off off-config (omega arith)) config-put (fun-ext (λ p. device-off off-config p (inr (omega arith))))
+      (fun-ext (drivers-unbound qs (takenAway ws c) queues e))
+
+-- ---- a fresh record
+
+-- zeros with the limits and both host masks put
+abbrev freshOver : List ℕ → ℕ → ℕ → List ℕ
+freshOver zs a d = putFour (putFour (set (set zs 0 a) 1 d) 2 allOnes) 6 allOnes
+
+zero-at : (n q : ℕ) → getD {A = ℕ} (replicate n 0) q 0 ≡ 0
+zero-at zero q = refl
+zero-at (suc n) zero = refl
+zero-at (suc n) (suc q) = zero-at n q
+
+module _ (zs qs : List ℕ) (a d : ℕ) (long : length zs ≡ 406) (none : (j : ℕ) → getD zs j 0 ≡ 0) (no-driver : (q : ℕ) → getD qs q 0 ≡ 0) where
+  two : List ℕ
+  two = set (set zs 0 a) 1 d
+
+  two-long : length two ≡ 406
+  unfolding two
+  two-long = simp length-set long
+
+  -- past the host's masks all words are 0
+  past-ten : (j : ℕ) → 10 ≤ j → getD (freshOver zs a d) j 0 ≡ 0
+  past-ten j h =
+      word-other (putFour (set (set zs 0 a) 1 d) 2 allOnes) 6 allOnes j (inr (omega arith)) ∙ word-other (set (set zs 0 a) 1 d) 2 allOnes j (inr (omega arith))
+      ∙ getD-set-other (set zs 0 a) 1 j d 0 (omega arith) ∙ getD-set-other zs 0 j a 0 (omega arith) ∙ none j
+
+  no-mask : (k : ℕ) → 10 ≤ k → maskAt (freshOver zs a d) k ≡ noBits
+  unfolding maskAt
+  no-mask k h =
+      ap (bitAt 64) (four-path (past-ten k h) (past-ten (k + 1) (omega arith)) (past-ten (k + 2) (omega arith)) (past-ten (k + 3) (omega arith))) ∙ zero-bits
+
+  fresh-limits : a ≤ 255 → d ≤ 255 → limitsIn (freshOver zs a d) ≡ record { adapter = a; domain = d }
+  unfolding limitsIn
+  fresh-limits ha hd =
+      let p = ap (λ (x : ℕ). min x 255)
+        (word-other (putFour (set (set zs 0 a) 1 d) 2 allOnes) 6 allOnes 0 (inl (omega arith)) ∙ word-other (set (set zs 0 a) 1 d) 2 allOnes 0 (inl (omega arith))
+          ∙ getD-set-other (set zs 0 a) 1 0 d 0 (omega arith) ∙ getD-set-same zs 0 a 0 (omega arith)) ∙ min-eq-left ha in
+      let q = ap (λ (x : ℕ). min x 255)
+        (word-other (putFour (set (set zs 0 a) 1 d) 2 allOnes) 6 allOnes 1 (inl (omega arith)) ∙ word-other (set (set zs 0 a) 1 d) 2 allOnes 1 (inl (omega arith))
+          ∙ getD-set-same (set zs 0 a) 1 d 0 (simp length-set (omega arith))) ∙ min-eq-left hd in
+      λ i. record { adapter = p i; domain = q i }
+
+  fresh-host : hostIn (freshOver zs a d) ≡ record { apmask = allBits; aqmask = allBits }
+  unfolding hostIn maskAt
+  fresh-host =
+      let p = ap (bitAt 64) (put-other (putFour (set (set zs 0 a) 1 d) 2 allOnes) 6 allOnes 2 (inl (omega arith)) ∙ put-get (set (set zs 0 a) 1 d) 2 allOnes (simp length-set (omega arith)) refl) ∙ one-bits in
+      let q = ap (bitAt 64) (put-get (putFour (set (set zs 0 a) 1 d) 2 allOnes) 6 allOnes (simp (put-length, length-set) (omega arith)) refl) ∙ one-bits in
+      λ i. record { apmask = p i; aqmask = q i }
+
+  fresh-config : configIn (freshOver zs a d) ≡ record { adapters = noBits; domains = noBits; controls = noBits; types = λ i. 0 }
+  unfolding configIn
+  fresh-config =
+      let p = no-mask 10 (omega arith) in
+      let q = no-mask 14 (omega arith) in
+      let r = no-mask 18 (omega arith) in
+      let t = fun-ext (λ j. ap (λ (x : ℕ). cond (ltb j 256) x 0) (past-ten (22 + j) (omega arith)) ∙ cond-both (ltb j 256) 0) in
+      λ i. record { adapters = p i; domains = q i; controls = r i; types = t i }
+
+  fresh-device : (p : ℕ) → deviceIn (freshOver zs a d) p ≡ noDevice
+  unfolding noDevice
+  fresh-device p = go (ltb p places) refl
+    where
+      go : (b : Bool) → ltb p places ≡ b → deviceIn (freshOver zs a d) p ≡ noDevice
+      go true e =
+          device-there (freshOver zs a d) p (ltb-true p places e)
+          ∙ same-device (deviceThere (freshOver zs a d) p) noDevice (ap flag (past-ten (deviceAt p) (omega arith)) ∙ flag-of false)
+            (ap flag (past-ten (deviceAt p + 1) (omega arith)) ∙ flag-of false)
+            (same-id (past-ten (deviceAt p + 2) (omega arith)) (past-ten (deviceAt p + 3) (omega arith))) (no-mask (deviceAt p + 4) (omega arith))
+            (no-mask (deviceAt p + 8) (omega arith)) (no-mask (deviceAt p + 12) (omega arith))
+      go false e = device-past (freshOver zs a d) p (ltb-false p places e)
+
+  fresh-over : a ≤ 255 → d ≤ 255 → stateIn (freshOver zs a d) qs ≡ fresh (record { adapter = a; domain = d })
+  unfolding stateIn fresh
+  fresh-over ha hd =
+      same-state (stateIn (freshOver zs a d) qs) (fresh (record { adapter = a; domain = d })) (fresh-limits ha hd) fresh-host fresh-config (fun-ext fresh-device)
+      (fun-ext (λ q. ap driverOf (no-driver q) ∙ unbound-zero))
+
+pub read-fresh : (a d : ℕ) → a ≤ 255 → d ≤ 255 → stateIn (freshWords a d) (replicate 65536 0) ≡ fresh (record { adapter = a; domain = d })
+unfolding freshWords
+read-fresh a d ha hd = fresh-over (replicate 406 0) (replicate 65536 0) a d (length-replicate {A = ℕ} 406 0) (zero-at 406) (zero-at 65536) ha hd
+
 -- ---- a command
 
 number-some : (e : Errno) → eqb (numberOf e) 0 ≡ false
@@ -605,3 +755,9 @@ granted-carried rule effect ws t h e =
       state = λ qs. e qs ∙ sym (ap (stateAfter (stateIn ws qs)) (h qs));
       words = refl;
     }
+
+-- ---- what a reference to the record tells
+
+-- the words that `hold_words` and `hold_drivers` speak of
+pub record-words : {w n : ℕ} {xs : List ℕ} → Held w n xs → Words w n xs
+record-words h = record { long = h .long; small = h .small }

@@ -1,34 +1,27 @@
-use Rattle.record.proofs.Laws.{cond-below}
-use mathlib.Core.Path.{_≡_, refl, sym, ap, _∙_}
-use native.Mathlib.Omega.{arith}
+-- `hardware_type` meets its contract.
+-- Assumes nothing.
 use Prim.Native.Nat.{_+_}
-use mathlib.Core.Bool.{Bool, cond}
+use native.Mathlib.Omega.{arith}
+use mathlib.Core.Path.{sym}
 use lib.ListN.{getD}
-use borrow.Author.Tests.{lt-ltb}
-use Rattle.record.specs.Layout.{configIn}
 use borrow.Author.Needs.{needs}
+use Rattle.record.specs.Layout.{configIn}
+use Rattle.record.proofs.Laws.{cond-below}
 use Rattle.record.proofs.hardware_type.Statement.{statement}
 use Rattle.record.proofs.hardware_type.Tie as tie
-use Rattle.record.proofs.hardware_type.Reads as reads
-use Rattle.record.proofs.hardware_type.Lts as lts
 
--- src/lib.rt:99:12
 cast-result : tie.Need-cast-result
 cast-result c = search needs
 
--- src/lib.rt:99:7
 add-result : tie.Need-add-result
 add-result c = search needs
 
--- src/lib.rt:99:5
 mul-result : tie.Need-mul-result
 mul-result c = search needs
 
--- src/lib.rt:99:5
 element-copy-out-result : tie.Need-element-copy-out-result
 element-copy-out-result c = search needs
 
--- src/lib.rt:96:1
 returns : tie.Need-returns
 unfolding configIn
 returns c = 

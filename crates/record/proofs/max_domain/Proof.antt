@@ -1,20 +1,16 @@
-use Rattle.record.specs.Layout.{limitsIn}
+-- `max_domain` meets its contract.
+-- Assumes nothing.
 use borrow.Author.Needs.{needs}
+use Rattle.record.specs.Layout.{limitsIn}
 use Rattle.record.proofs.max_domain.Statement.{statement}
 use Rattle.record.proofs.max_domain.Tie as tie
-use Rattle.record.proofs.max_domain.Reads as reads
-use Rattle.record.proofs.max_domain.Lts as lts
-use Rattle.record.proofs.limit.Reads as limit-reads
 
--- src/lib.rt:56:11
 element-copy-out-limit : tie.Need-element-copy-out-limit
 element-copy-out-limit c = search needs
 
--- src/lib.rt:56:5
 limit-requires : tie.Need-limit-requires
 limit-requires c κs = search needs
 
--- src/lib.rt:53:1
 returns : tie.Need-returns
 unfolding limitsIn
 returns c = c .limit .ensures

@@ -1,57 +1,45 @@
-use mathlib.Core.Path.{_≡_, refl, sym, ap, _∙_}
-use native.Mathlib.Omega.{arith}
+-- `put_device` meets its contract: four masks are put, the first with the flag and the id.
+-- Assumes nothing.
 use Prim.Native.Nat.{ℕ, _+_, _*_}
+use native.Mathlib.Omega.{arith}
+use mathlib.Core.Path.{sym, ap, _∙_}
 use mathlib.Core.Bool.{Bool, cond}
 use mathlib.Core.List.{List, [], _∷_}
 use mathlib.Core.Logic.{⊎-elim}
-use Rattle.rules.specs.State.{places}
-use Rattle.record.specs.Layout.{putFour, zeros, deviceAt}
-use Rattle.record.proofs.Laws.{cond-below, cond-past}
-use Rattle.record.specs.Layout.{putDevice}
 use borrow.Author.Needs.{needs}
+use Rattle.rules.specs.State.{places}
+use Rattle.record.specs.Layout.{putFour, zeros, putDevice}
+use Rattle.record.proofs.Laws.{cond-below, cond-past}
 use Rattle.record.proofs.put_device.Statement.{statement}
 use Rattle.record.proofs.put_device.Tie as tie
-use Rattle.record.proofs.put_device.Reads as reads
-use Rattle.record.proofs.put_device.Lts as lts
-use Rattle.record.proofs.put_mask.Reads as put-mask-reads
 
--- src/lib.rt:186:23
 mul-k : tie.Need-mul-k
 mul-k c = search needs
 
--- src/lib.rt:186:17
 add-k : tie.Need-add-k
 add-k c = search needs
 
--- src/lib.rt:189:9
 put-mask-requires : tie.Need-put-mask-requires
 put-mask-requires c κs = search needs
 
--- src/lib.rt:196:21
 add-put-mask : tie.Need-add-put-mask
 add-put-mask c = search needs
 
--- src/lib.rt:196:9
 put-mask-requires-2 : tie.Need-put-mask-requires-2
 put-mask-requires-2 c κs = search needs
 
--- src/lib.rt:197:21
 add-put-mask-2 : tie.Need-add-put-mask-2
 add-put-mask-2 c = search needs
 
--- src/lib.rt:197:9
 put-mask-requires-3 : tie.Need-put-mask-requires-3
 put-mask-requires-3 c κs = search needs
 
--- src/lib.rt:198:21
 add-put-mask-3 : tie.Need-add-put-mask-3
 add-put-mask-3 c = search needs
 
--- src/lib.rt:198:9
 put-mask-requires-4 : tie.Need-put-mask-requires-4
 put-mask-requires-4 c κs = search needs
 
--- src/lib.rt:182:1
 returns : tie.Need-returns
 unfolding putDevice
 returns c = 
@@ -66,7 +54,6 @@ returns c =
     (c .before .before .before .before .before .before .before .before .if2 .came)))))
     ∙ sym (cond-below (a .p) places _ (a .s .now) (omega arith))
 
--- src/lib.rt:182:1
 returns-2 : tie.Need-returns-2
 unfolding putDevice
 returns-2 c = 

@@ -1,40 +1,33 @@
-use mathlib.Core.Path.{_≡_, refl, sym, ap, _∙_}
+-- `put_open` meets its contract.
+-- Assumes nothing.
+use Prim.Native.Nat.{_+_, _*_}
 use native.Mathlib.Omega.{arith}
-use Prim.Native.Nat.{ℕ, _+_, _*_}
+use mathlib.Core.Path.{sym, ap, _∙_}
 use mathlib.Core.Bool.{Bool, cond}
 use mathlib.Core.Logic.{⊎-elim}
 use lib.ListN.{set}
-use Rattle.rules.specs.State.{places}
-use Rattle.record.specs.Layout.{deviceAt}
-use Rattle.record.proofs.Laws.{cond-below, cond-past}
-use Rattle.record.specs.Layout.{putOpen}
 use borrow.Author.Needs.{needs}
+use Rattle.rules.specs.State.{places}
+use Rattle.record.specs.Layout.{deviceAt, putOpen}
+use Rattle.record.proofs.Laws.{cond-below, cond-past}
 use Rattle.record.proofs.put_open.Statement.{statement}
 use Rattle.record.proofs.put_open.Tie as tie
-use Rattle.record.proofs.put_open.Reads as reads
-use Rattle.record.proofs.put_open.Lts as lts
 
--- src/lib.rt:177:17
 mul-s : tie.Need-mul-s
 mul-s c = search needs
 
--- src/lib.rt:177:11
 add-s : tie.Need-add-s
 add-s c = search needs
 
--- src/lib.rt:177:11
 add-s-2 : tie.Need-add-s-2
 add-s-2 c = search needs
 
--- src/lib.rt:177:9
 mul-s-2 : tie.Need-mul-s-2
 mul-s-2 c = search needs
 
--- src/lib.rt:177:9
 element-write-s : tie.Need-element-write-s
 element-write-s c = search needs
 
--- src/lib.rt:173:1
 returns : tie.Need-returns
 unfolding putOpen
 returns c = 
@@ -43,7 +36,6 @@ returns c =
     (⊎-elim (λ w. w .1 ∙ sym (ap (λ (b : Bool). cond b 1 0) (w .0 .taken))) (λ w. w .1 ∙ sym (ap (λ (b : Bool). cond b 1 0) (w .0 .left))) (c .if2 .came))
     ∙ sym (cond-below (a .p) places (set (a .s .now) (deviceAt (a .p) + 1) (cond (a .opened) 1 0)) (a .s .now) (omega arith))
 
--- src/lib.rt:173:1
 returns-2 : tie.Need-returns-2
 unfolding putOpen
 returns-2 c = 

@@ -1,22 +1,17 @@
+-- `put_types` meets its contract. The loop's invariant: the types of the first a adapters are put.
+-- Assumes nothing.
+use Prim.Native.Nat.{_<_, _≤_, _-_}
 use native.Mathlib.Nat.{mod-eq-of-lt}
-use Prim.Native.Nat.{_<_}
-use mathlib.Core.Path.{refl, ap, _∙_}
-use mathlib.Core.Bool.{Bool}
-use Rattle.record.proofs.Laws.{types-next}
-use Prim.Native.Nat.{_≤_, _-_}
-use mathlib.Core.Path.{_≡_}
-use mathlib.Core.Bool.{cond}
-use lib.ListN.{getD}
 use native.Mathlib.Omega.{arith}
+use mathlib.Core.Path.{refl, ap, _∙_, _≡_}
+use mathlib.Core.Bool.{Bool, cond}
+use lib.ListN.{getD}
 use borrow.Author.Needs.{needs}
 use Rattle.mask.specs.Bits.{bits}
 use Rattle.record.specs.Layout.{putTypes}
+use Rattle.record.proofs.Laws.{types-next}
 use Rattle.record.proofs.put_types.Statement.{statement}
 use Rattle.record.proofs.put_types.Tie as tie
-use Rattle.record.proofs.put_types.Reads as reads
-use Rattle.record.proofs.put_types.Lts as lts
-use Rattle.mask.proofs.Mask.has.Reads as has-reads
-use Rattle.record.proofs.type_of.Reads as type-of-reads
 
 abbrev Inv-loop : tie.InvT-loop
 Inv-loop s₀ adapters types a₀ s a = (a ≤ 256) × (s ≡ putTypes s₀ (λ i. cond (bits adapters i) (getD types i 0) 0) a)
@@ -24,48 +19,37 @@ Inv-loop s₀ adapters types a₀ s a = (a ≤ 256) × (s ≡ putTypes s₀ (λ 
 abbrev μ-loop : tie.MeasureT-loop
 μ-loop s₀ adapters types a₀ s a = 256 - a
 
--- src/lib.rt:219:5
 loop-holds : tie.Need-loop-holds Inv-loop μ-loop
 unfolding putTypes
 loop-holds c = (omega arith, refl)
 
--- src/lib.rt:220:42
 cast-has : tie.Need-cast-has Inv-loop μ-loop
 cast-has c = search needs
 
--- src/lib.rt:220:29
 has-requires : tie.Need-has-requires Inv-loop μ-loop
 has-requires c κs = search needs
 
--- src/lib.rt:220:60
 array-read-type-of : tie.Need-array-read-type-of Inv-loop μ-loop
 array-read-type-of c = search needs
 
--- src/lib.rt:220:21
 type-of-requires : tie.Need-type-of-requires Inv-loop μ-loop
 type-of-requires c κs = search needs
 
--- src/lib.rt:220:11
 add-s : tie.Need-add-s Inv-loop μ-loop
 add-s c = search needs
 
--- src/lib.rt:220:9
 mul-s : tie.Need-mul-s Inv-loop μ-loop
 mul-s c = search needs
 
--- src/lib.rt:220:9
 element-write-s : tie.Need-element-write-s Inv-loop μ-loop
 element-write-s c = search needs
 
--- src/lib.rt:221:9
 add-a : tie.Need-add-a Inv-loop μ-loop
 add-a c = search needs
 
--- src/lib.rt:219:5
 loop-less : tie.Need-loop-less Inv-loop μ-loop
 loop-less c = search needs
 
--- src/lib.rt:219:5
 loop-again : tie.Need-loop-again Inv-loop μ-loop
 loop-again c = 
     let a = c .before .before .before .loop .a in
@@ -76,7 +60,6 @@ loop-again c =
     (c .before .before .before .loop .inv .1)
     (c .type-of .ensures ∙ ap (λ (b : Bool). cond b (getD (r .t3) a 0) 0) (c .before .has .ensures ∙ ap (bits (r .adapters)) (mod-eq-of-lt h))))
 
--- src/lib.rt:215:1
 returns : tie.Need-returns Inv-loop μ-loop
 returns c = 
     let r = c .before .before .args in
