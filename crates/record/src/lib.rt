@@ -14,6 +14,7 @@ ghost use mathlib.Core.Bool.{cond};
 ghost use lib.ListN.{getD, set};
 ghost use Rattle.mask.specs.Bits.{bits};
 ghost use Rattle.rules.specs.Commands.{numbersOf};
+ghost use Rattle.record.specs.Held.{Held, Small};
 ghost use Rattle.record.specs.Layout.{four, limitsIn, hostIn, configIn, deviceIn, driverOf, byteOf, kindAt, apmaskAt, aqmaskAt};
 ghost use Rattle.record.specs.Layout.{putFour, putNumbers, putOpen, putDevice, putTypes, putConfig, freshWords};
 
@@ -22,6 +23,34 @@ pub const PLACES: usize = 8;
 
 // The number of words: limits, host masks, configuration, types, and 16 for each device.
 pub const WORDS: usize = 406;
+
+// A reference to an array says how long it is only where it becomes a slice. These two do nothing but state that.
+pub fn hold_words(s: &[u64; WORDS])
+    ensures { λ r. ⌜ Held 64 406 (now (s .entry)) ⌝ }
+{
+    small_words(s);
+}
+
+pub fn hold_drivers(q: &[u8; 65536])
+    ensures { λ r. ⌜ Held 8 65536 (now (q .entry)) ⌝ }
+{
+    small_bytes(q);
+}
+
+fn small_words(s: &[u64])
+    ensures { λ r. ⌜ Small 64 (now (s .entry)) ⌝ }
+{
+    nothing();
+}
+
+fn small_bytes(s: &[u8])
+    ensures { λ r. ⌜ Small 8 (now (s .entry)) ⌝ }
+{
+    nothing();
+}
+
+// A slice's numbers are known to be small in a function that calls another.
+fn nothing() {}
 
 // Four words as a mask.
 fn mask_at(s: &[u64; WORDS], k: usize) -> Mask
@@ -222,7 +251,9 @@ fn put_types(s: &mut [u64; WORDS], adapters: Mask, types: [u8; 256])
     }
 }
 
-fn type_of(configured: bool, t: u8) -> u64 {
+fn type_of(configured: bool, t: u8) -> u64
+    ensures { λ r. ⌜ r ≡ cond configured t 0 ⌝ }
+{
     if configured { t as u64 } else { 0 }
 }
 

@@ -1,0 +1,43 @@
+-- `driver` meets its contract.
+-- Assumes nothing.
+use Prim.Native.Nat.{_+_, _*_}
+use lib.ListN.{getD}
+use borrow.Author.Tests.{ne-eqb}
+use borrow.Author.Needs.{needs}
+use Rattle.record.specs.Layout.{driverOf}
+use Rattle.record.proofs.driver.Statement.{statement}
+use Rattle.record.proofs.driver.Tie as tie
+
+cast-b : tie.Need-cast-b
+cast-b c = search needs
+
+mul-b : tie.Need-mul-b
+mul-b c = search needs
+
+cast-b-2 : tie.Need-cast-b-2
+cast-b-2 c = search needs
+
+add-b : tie.Need-add-b
+add-b c = search needs
+
+element-copy-out-b : tie.Need-element-copy-out-b
+element-copy-out-b c = search needs
+
+returns : tie.Need-returns
+unfolding driverOf
+returns c = rw (c .if1 .taken)
+
+returns-2 : tie.Need-returns-2
+unfolding driverOf
+returns-2 c = rw (c .if2 .taken)
+
+returns-3 : tie.Need-returns-3
+unfolding driverOf
+returns-3 c = 
+    let a = c .before .before .before .before .before .args in
+    let b = getD (a .q .now) (a .a .0 * 256 + a .d .0) 0 in
+    rw (ne-eqb b 1 (c .before .if1 .left), ne-eqb b 2 (c .if2 .left))
+
+pub driver-spec : {M : Type 1} → statement M
+driver-spec =
+    tie.close (tie.spec cast-b mul-b cast-b-2 add-b element-copy-out-b returns returns-2 returns-3)

@@ -1,0 +1,64 @@
+-- `numbers` meets its contract.
+-- Assumes nothing.
+use Prim.Native.Nat.{ℕ, _+_, _*_}
+use native.Mathlib.Omega.{arith}
+use mathlib.Core.Path.{_≡_, refl, sym, ap, _∙_}
+use borrow.Author.Needs.{needs}
+use Rattle.mask.specs.Bits.{bitAt, noBits}
+use Rattle.rules.specs.declared.Kind.{Kind}
+use Rattle.rules.specs.declared.Kind.the-variants.{Adapter, Domain, Control}
+use Rattle.rules.specs.State.{noDevice}
+use Rattle.rules.specs.Commands.{numbersOf}
+use Rattle.record.specs.Layout.{maskAt}
+use Rattle.record.proofs.Laws.{device-there, device-past, numbers-there, kind-small}
+use Rattle.record.proofs.numbers.Statement.{statement}
+use Rattle.record.proofs.numbers.Tie as tie
+
+mul-mask-at : tie.Need-mul-mask-at
+mul-mask-at c = search needs
+
+add-mask-at : tie.Need-add-mask-at
+add-mask-at c = search needs
+
+kind-at-requires : tie.Need-kind-at-requires
+kind-at-requires c κs = search needs
+
+add-mask-at-2 : tie.Need-add-mask-at-2
+add-mask-at-2 c = omega (arith, kind-small (c .before .before .args .k))
+
+mask-at-requires : tie.Need-mask-at-requires
+mask-at-requires c κs = omega (arith, kind-small (c .before .before .args .k))
+
+returns : tie.Need-returns
+unfolding maskAt
+returns c = 
+    let a = c .before .before .before .args in
+    ap (bitAt 64) (c .mask-at .ensures) ∙ ap (λ (n : ℕ). maskAt (a .s .now) (278 + a .p * 16 + n)) (c .before .kind-at .ensures)
+    ∙ sym (numbers-there (a .s .now) (a .p) (a .k)) ∙ ap (numbersOf (a .k)) (sym (device-there (a .s .now) (a .p) (omega arith)))
+
+empty-requires : tie.Need-empty-requires
+empty-requires c κs = search needs
+
+returns-2 : tie.Need-returns-2
+unfolding numbersOf noDevice
+returns-2 c = 
+    let a = c .before .before .args in
+    c .empty .ensures ∙ none (a .k) ∙ ap (numbersOf (a .k)) (sym (device-past (a .s .now) (a .p) (omega arith)))
+  where
+    none : (k : Kind) → noBits ≡ numbersOf k noDevice
+    none Adapter = refl
+    none Domain = refl
+    none Control = refl
+
+pub numbers-spec : {M : Type 1} → statement M
+numbers-spec =
+    tie.close
+    (tie.spec
+    mul-mask-at
+    add-mask-at
+    kind-at-requires
+    add-mask-at-2
+    mask-at-requires
+    returns
+    empty-requires
+    returns-2)

@@ -1,0 +1,31 @@
+-- `put_fresh` meets its contract.
+-- Assumes nothing.
+use Prim.Native.Nat.{ℕ}
+use mathlib.Core.Path.{ap, _∙_}
+use mathlib.Core.List.{List, [], _∷_}
+use borrow.Author.Needs.{needs}
+use Rattle.record.specs.Layout.{putFour, ones, freshWords}
+use Rattle.record.proofs.put_fresh.Statement.{statement}
+use Rattle.record.proofs.put_fresh.Tie as tie
+
+element-write-s : tie.Need-element-write-s
+element-write-s c = search needs
+
+element-write-s-2 : tie.Need-element-write-s-2
+element-write-s-2 c = search needs
+
+put-mask-requires : tie.Need-put-mask-requires
+put-mask-requires c κs = search needs
+
+put-mask-requires-2 : tie.Need-put-mask-requires-2
+put-mask-requires-2 c κs = search needs
+
+returns : tie.Need-returns
+unfolding freshWords
+returns c = 
+    c .put-mask2 .ensures ∙ ap (λ (l : List ℕ). putFour l 6 (ones ∷ ones ∷ ones ∷ ones ∷ [])) (c .before .before .put-mask .ensures)
+
+pub put-fresh-spec : {M : Type 1} → statement M
+put-fresh-spec =
+    tie.close
+    (tie.spec element-write-s element-write-s-2 put-mask-requires put-mask-requires-2 returns)

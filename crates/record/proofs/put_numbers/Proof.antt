@@ -1,0 +1,51 @@
+-- `put_numbers` meets its contract.
+-- Assumes nothing.
+use Prim.Native.Nat.{ℕ, _+_, _*_}
+use native.Mathlib.Omega.{arith}
+use mathlib.Core.Path.{sym, ap, _∙_}
+use borrow.Author.Needs.{needs}
+use Rattle.rules.specs.State.{places}
+use Rattle.record.specs.Layout.{putFour, deviceAt, kindAt, putNumbers}
+use Rattle.record.proofs.Laws.{cond-below, cond-past, kind-small}
+use Rattle.record.proofs.put_numbers.Statement.{statement}
+use Rattle.record.proofs.put_numbers.Tie as tie
+
+mul-put-mask : tie.Need-mul-put-mask
+mul-put-mask c = search needs
+
+add-put-mask : tie.Need-add-put-mask
+add-put-mask c = search needs
+
+kind-at-requires : tie.Need-kind-at-requires
+kind-at-requires c κs = search needs
+
+add-put-mask-2 : tie.Need-add-put-mask-2
+add-put-mask-2 c = omega (arith, kind-small (c .before .before .before .args .k))
+
+put-mask-requires : tie.Need-put-mask-requires
+put-mask-requires c κs = omega (arith, kind-small (c .before .before .before .args .k))
+
+returns : tie.Need-returns
+unfolding putNumbers
+returns c = 
+    let a = c .before .before .before .before .args in
+    c .put-mask .ensures ∙ ap (λ (n : ℕ). putFour (a .s .now) (278 + a .p * 16 + n) (a .m .words)) (c .before .kind-at .ensures)
+    ∙ sym (cond-below (a .p) places (putFour (a .s .now) (deviceAt (a .p) + kindAt (a .k)) (a .m .words)) (a .s .now) (omega arith))
+
+returns-2 : tie.Need-returns-2
+unfolding putNumbers
+returns-2 c = 
+    let a = c .before .args in
+    sym (cond-past (a .p) places (putFour (a .s .now) (deviceAt (a .p) + kindAt (a .k)) (a .m .words)) (a .s .now) (omega arith))
+
+pub put-numbers-spec : {M : Type 1} → statement M
+put-numbers-spec =
+    tie.close
+    (tie.spec
+    mul-put-mask
+    add-put-mask
+    kind-at-requires
+    add-put-mask-2
+    put-mask-requires
+    returns
+    returns-2)

@@ -1,0 +1,86 @@
+-- `put_types` meets its contract. The loop's invariant: the types of the first a adapters are put.
+-- Assumes nothing.
+use Prim.Native.Nat.{_<_, _≤_, _-_}
+use native.Mathlib.Nat.{mod-eq-of-lt}
+use native.Mathlib.Omega.{arith}
+use mathlib.Core.Path.{refl, ap, _∙_, _≡_}
+use mathlib.Core.Bool.{Bool, cond}
+use lib.ListN.{getD}
+use borrow.Author.Needs.{needs}
+use Rattle.mask.specs.Bits.{bits}
+use Rattle.record.specs.Layout.{putTypes}
+use Rattle.record.proofs.Laws.{types-next}
+use Rattle.record.proofs.put_types.Statement.{statement}
+use Rattle.record.proofs.put_types.Tie as tie
+
+abbrev Inv-loop : tie.InvT-loop
+Inv-loop s₀ adapters types a₀ s a = (a ≤ 256) × (s ≡ putTypes s₀ (λ i. cond (bits adapters i) (getD types i 0) 0) a)
+
+abbrev μ-loop : tie.MeasureT-loop
+μ-loop s₀ adapters types a₀ s a = 256 - a
+
+loop-holds : tie.Need-loop-holds Inv-loop μ-loop
+unfolding putTypes
+loop-holds c = (omega arith, refl)
+
+cast-has : tie.Need-cast-has Inv-loop μ-loop
+cast-has c = search needs
+
+has-requires : tie.Need-has-requires Inv-loop μ-loop
+has-requires c κs = search needs
+
+array-read-type-of : tie.Need-array-read-type-of Inv-loop μ-loop
+array-read-type-of c = search needs
+
+type-of-requires : tie.Need-type-of-requires Inv-loop μ-loop
+type-of-requires c κs = search needs
+
+add-s : tie.Need-add-s Inv-loop μ-loop
+add-s c = search needs
+
+mul-s : tie.Need-mul-s Inv-loop μ-loop
+mul-s c = search needs
+
+element-write-s : tie.Need-element-write-s Inv-loop μ-loop
+element-write-s c = search needs
+
+add-a : tie.Need-add-a Inv-loop μ-loop
+add-a c = search needs
+
+loop-less : tie.Need-loop-less Inv-loop μ-loop
+loop-less c = search needs
+
+loop-again : tie.Need-loop-again Inv-loop μ-loop
+loop-again c = 
+    let a = c .before .before .before .loop .a in
+    let h : a < 256 = omega arith in
+    let r = c .before .before .before .before .args in
+    (omega arith,
+    types-next (r .s .now) (c .before .before .before .loop .s) (λ i. cond (bits (r .adapters) i) (getD (r .t3) i 0) 0) a (c .type-of .result)
+    (c .before .before .before .loop .inv .1)
+    (c .type-of .ensures ∙ ap (λ (b : Bool). cond b (getD (r .t3) a 0) 0) (c .before .has .ensures ∙ ap (bits (r .adapters)) (mod-eq-of-lt h))))
+
+returns : tie.Need-returns Inv-loop μ-loop
+returns c = 
+    let r = c .before .before .args in
+    let last : c .before .loop .a ≡ 256 = omega arith in
+    c .before .loop .inv .1 ∙ ap (putTypes (r .s .now) (λ i. cond (bits (r .adapters) i) (getD (r .t3) i 0) 0)) last
+
+pub put-types-spec : {M : Type 1} → statement M
+put-types-spec =
+    tie.close
+    (tie.spec
+    Inv-loop
+    μ-loop
+    loop-holds
+    cast-has
+    has-requires
+    array-read-type-of
+    type-of-requires
+    add-s
+    mul-s
+    element-write-s
+    add-a
+    loop-less
+    loop-again
+    returns)
