@@ -39,7 +39,7 @@ erase s =
       domains = s .config .domains;
       controls = s .config .controls;
       types = s .config .types;
-      device = s .device
+      device = s .device;
     }
 
 -- ---- the two ways to look for places and pairs
@@ -153,7 +153,7 @@ put-same j u w s e =
       domains = s .config .domains;
       controls = s .config .controls;
       types = s .config .types;
-      device = λ k. cond (eqb k j) x (s .device k)
+      device = λ k. cond (eqb k j) x (s .device k);
     }) e
 
 -- a new device, and an empty place
@@ -306,4 +306,4 @@ unassigned k i text s =
     (λ x. cond (leb n (limitOf k (s .limits))) (granted (withDevice x (withNumbers k (excluded n (numbersOf k (s .device x))) (s .device x)) s)) (refused 19))
     (λ x. cond (ltb (highest k (erase s)) n) (record { errno = 19; next = erase s }) (record { errno = 0; next = put x (turn false k n (s .device x)) (erase s) }))
     (within k n s _ _
-    (grants s _ _ (put-same (placeOf i (s .device)) _ _ s (turn-as false k n (s .device (placeOf i (s .device))) _ (turned-off n (numbersOf k (s .device (placeOf i (s .device)))))))))) 
+    (grants s _ _ (put-same (placeOf i (s .device)) _ _ s (turn-as false k n (s .device (placeOf i (s .device))) _ (turned-off n (numbersOf k (s .device (placeOf i (s .device))))))))))

@@ -116,7 +116,7 @@ put p v m =
       domains = m .domains;
       controls = m .controls;
       types = m .types;
-      device = λ j. cond (eqb j p) v (m .device j)
+      device = λ j. cond (eqb j p) v (m .device j);
     }
 
 -- a device with nothing assigned, not open; without an id it is an empty place
@@ -156,7 +156,7 @@ masked ap aq m =
       domains = m .domains;
       controls = m .controls;
       types = m .types;
-      device = m .device
+      device = m .device;
     }
 
 -- another configuration; a type given for an adapter that is not configured is stored as 0
@@ -171,7 +171,7 @@ given c m =
       domains = bits (c .domains);
       controls = bits (c .controls);
       types = λ a. cond (bits (c .adapters) a) (getD (c .types) a 0) 0;
-      device = m .device
+      device = m .device;
     }
 
 -- ---- checks and answers
@@ -250,7 +250,7 @@ start a d =
       domains = λ i. false;
       controls = λ i. false;
       types = λ i. 0;
-      device = λ p. bare false nobody
+      device = λ p. bare false nobody;
     }
 
 -- what the model answers to commands

@@ -125,12 +125,12 @@ unfolding putFour
 put-get ws k m h e =
     four-path
     (getD-set-other (put3 ws k m) (k + 3) k (getD m 3 0) 0 (omega arith) ∙ getD-set-other (put2 ws k m) (k + 2) k (getD m 2 0) 0 (omega arith)
-      ∙ getD-set-other (put1 ws k m) (k + 1) k (getD m 1 0) 0 (omega arith) ∙ getD-set-same ws k (getD m 0 0) 0 (omega arith))
+    ∙ getD-set-other (put1 ws k m) (k + 1) k (getD m 1 0) 0 (omega arith) ∙ getD-set-same ws k (getD m 0 0) 0 (omega arith))
     (getD-set-other (put3 ws k m) (k + 3) (k + 1) (getD m 3 0) 0 (omega arith)
-      ∙ getD-set-other (put2 ws k m) (k + 2) (k + 1) (getD m 2 0) 0 (omega arith)
-      ∙ getD-set-same (put1 ws k m) (k + 1) (getD m 1 0) 0 (simp length-set (omega arith)))
+    ∙ getD-set-other (put2 ws k m) (k + 2) (k + 1) (getD m 2 0) 0 (omega arith)
+    ∙ getD-set-same (put1 ws k m) (k + 1) (getD m 1 0) 0 (simp length-set (omega arith)))
     (getD-set-other (put3 ws k m) (k + 3) (k + 2) (getD m 3 0) 0 (omega arith)
-      ∙ getD-set-same (put2 ws k m) (k + 2) (getD m 2 0) 0 (simp length-set (omega arith)))
+    ∙ getD-set-same (put2 ws k m) (k + 2) (getD m 2 0) 0 (simp length-set (omega arith)))
     (getD-set-same (put3 ws k m) (k + 3) (getD m 3 0) 0 (simp length-set (omega arith)))
     ∙ four-of m e
 
@@ -454,7 +454,7 @@ module _ (ws : List ℕ) (qs : List ℕ) (p : ℕ) (long : length ws ≡ 406) (t
       ap (λ (vs : List ℕ). stateIn vs qs) (cond-below p places (putFour ws at m) ws there)
       ∙ read-device qs p (withNumbers k (bitAt 64 m) (deviceIn ws p)) there (off-wider (deviceAt p) 16 (off-four ws at m) (omega arith) (omega arith))
       (device-there (putFour ws at m) p there ∙ device-numbers k m (putFour ws at m) (off-four ws at m) (ap (bitAt 64) (put-get ws at m (omega arith) e))
-        ∙ ap (withNumbers k (bitAt 64 m)) (sym (device-there ws p there)))
+      ∙ ap (withNumbers k (bitAt 64 m)) (sym (device-there ws p there)))
 
   pub read-open : (o : Bool) → stateIn (putOpen ws p o) qs ≡ withDevice p (withOpen o (deviceIn ws p)) (stateIn ws qs)
   unfolding putOpen withOpen
@@ -464,10 +464,10 @@ module _ (ws : List ℕ) (qs : List ℕ) (p : ℕ) (long : length ws ≡ 406) (t
       ap (λ (l : List ℕ). stateIn l qs) (cond-below p places vs ws there)
       ∙ read-device qs p (withOpen t (deviceIn ws p)) there (off-wider (deviceAt p) 16 o (omega arith) (omega arith))
       (device-there vs p there
-        ∙ same-device (deviceThere vs p) (withOpen t (deviceThere ws p)) (ap flag (o .at (deviceAt p) (inl (omega arith)))) (ap flag (getD-set-same ws (deviceAt p + 1) (cond t 1 0) 0 (omega arith)) ∙ flag-of t)
-          (same-id (o .at (deviceAt p + 2) (inr (omega arith))) (o .at (deviceAt p + 3) (inr (omega arith)))) (mask-off o (deviceAt p + 4) (inr (omega arith)))
-          (mask-off o (deviceAt p + 8) (inr (omega arith))) (mask-off o (deviceAt p + 12) (inr (omega arith)))
-        ∙ ap (withOpen t) (sym (device-there ws p there)))
+      ∙ same-device (deviceThere vs p) (withOpen t (deviceThere ws p)) (ap flag (o .at (deviceAt p) (inl (omega arith)))) (ap flag (getD-set-same ws (deviceAt p + 1) (cond t 1 0) 0 (omega arith)) ∙ flag-of t)
+      (same-id (o .at (deviceAt p + 2) (inr (omega arith))) (o .at (deviceAt p + 3) (inr (omega arith)))) (mask-off o (deviceAt p + 4) (inr (omega arith)))
+      (mask-off o (deviceAt p + 8) (inr (omega arith))) (mask-off o (deviceAt p + 12) (inr (omega arith)))
+      ∙ ap (withOpen t) (sym (device-there ws p there)))
 
   -- a place that is given: its first four words, then no number
   device-given : (t : Bool) (i : Id) → deviceThere (placeWords ws p t i) p
@@ -562,12 +562,12 @@ read-driver qs n d ws h q = go (eqb q n) refl
 pub read-rebound : (qs : List ℕ) (n : ℕ) (d : Driver) (ws : List ℕ) → n < length qs
     → stateIn ws (set qs n (byteOf d))
     ≡ record {
-        limits = stateIn ws qs .limits;
-        host = stateIn ws qs .host;
-        config = stateIn ws qs .config;
-        device = stateIn ws qs .device;
-        driver = rebound n d (stateIn ws qs .driver);
-      }
+      limits = stateIn ws qs .limits;
+      host = stateIn ws qs .host;
+      config = stateIn ws qs .config;
+      device = stateIn ws qs .device;
+      driver = rebound n d (stateIn ws qs .driver);
+    }
 unfolding stateIn
 read-rebound qs n d ws h =
     let e = fun-ext (read-driver qs n d ws h) in
@@ -590,7 +590,7 @@ module _ (ws : List ℕ) (c : Configuration) (long : length ws ≡ 406) (wa : Wo
   off-config =
       off-then
       (off-then (off-then (wide ws 10 (c .adapters .words) (omega arith) (omega arith)) (wide (putFour ws 10 (c .adapters .words)) 14 (c .domains .words) (omega arith) (omega arith)))
-        (wide (putFour (putFour ws 10 (c .adapters .words)) 14 (c .domains .words)) 18 (c .controls .words) (omega arith) (omega arith)))
+      (wide (putFour (putFour ws 10 (c .adapters .words)) 14 (c .domains .words)) 18 (c .controls .words) (omega arith) (omega arith)))
       (off-wider 10 268 (off-types (maskWords ws c) (typeOf c) 256) (omega arith) (omega arith))
     where
       wide : (us : List ℕ) (k : ℕ) (m : List ℕ) → 10 ≤ k → k + 4 ≤ 278 → Off 10 268 us (putFour us k m)
@@ -612,9 +612,9 @@ module _ (ws : List ℕ) (c : Configuration) (long : length ws ≡ 406) (wa : Wo
       let s1 = putFour ws 10 (c .adapters .words) in
       let s2 = putFour s1 14 (c .domains .words) in
       let p = four-off o 10 (inl (omega arith)) ∙ put-other s2 18 (c .controls .words) 10 (inl (omega arith)) ∙ put-other s1 14 (c .domains .words) 10 (inl (omega arith))
-        ∙ put-get ws 10 (c .adapters .words) (omega arith) (wa .long) in
+      ∙ put-get ws 10 (c .adapters .words) (omega arith) (wa .long) in
       let q = four-off o 14 (inl (omega arith)) ∙ put-other s2 18 (c .controls .words) 14 (inl (omega arith))
-        ∙ put-get s1 14 (c .domains .words) (simp put-length (omega arith)) (wd .long) in
+      ∙ put-get s1 14 (c .domains .words) (simp put-length (omega arith)) (wd .long) in
       let r = four-off o 18 (inl (omega arith)) ∙ put-get s2 18 (c .controls .words) (simp put-length (omega arith)) (wc .long) in
       let t = fun-ext config-types in
       λ i. record { adapters = bitAt 64 (p i); domains = bitAt 64 (q i); controls = bitAt 64 (r i); types = t i }
@@ -677,11 +677,11 @@ module _ (zs qs : List ℕ) (a d : ℕ) (long : length zs ≡ 406) (none : (j : 
   unfolding limitsIn
   fresh-limits ha hd =
       let p = ap (λ (x : ℕ). min x 255)
-        (word-other (putFour (set (set zs 0 a) 1 d) 2 allOnes) 6 allOnes 0 (inl (omega arith)) ∙ word-other (set (set zs 0 a) 1 d) 2 allOnes 0 (inl (omega arith))
-          ∙ getD-set-other (set zs 0 a) 1 0 d 0 (omega arith) ∙ getD-set-same zs 0 a 0 (omega arith)) ∙ min-eq-left ha in
+      (word-other (putFour (set (set zs 0 a) 1 d) 2 allOnes) 6 allOnes 0 (inl (omega arith)) ∙ word-other (set (set zs 0 a) 1 d) 2 allOnes 0 (inl (omega arith))
+      ∙ getD-set-other (set zs 0 a) 1 0 d 0 (omega arith) ∙ getD-set-same zs 0 a 0 (omega arith)) ∙ min-eq-left ha in
       let q = ap (λ (x : ℕ). min x 255)
-        (word-other (putFour (set (set zs 0 a) 1 d) 2 allOnes) 6 allOnes 1 (inl (omega arith)) ∙ word-other (set (set zs 0 a) 1 d) 2 allOnes 1 (inl (omega arith))
-          ∙ getD-set-same (set zs 0 a) 1 d 0 (simp length-set (omega arith))) ∙ min-eq-left hd in
+      (word-other (putFour (set (set zs 0 a) 1 d) 2 allOnes) 6 allOnes 1 (inl (omega arith)) ∙ word-other (set (set zs 0 a) 1 d) 2 allOnes 1 (inl (omega arith))
+      ∙ getD-set-same (set zs 0 a) 1 d 0 (simp length-set (omega arith))) ∙ min-eq-left hd in
       λ i. record { adapter = p i; domain = q i }
 
   fresh-host : hostIn (freshOver zs a d) ≡ record { apmask = allBits; aqmask = allBits }
@@ -708,9 +708,9 @@ module _ (zs qs : List ℕ) (a d : ℕ) (long : length zs ≡ 406) (none : (j : 
       go true e =
           device-there (freshOver zs a d) p (ltb-true p places e)
           ∙ same-device (deviceThere (freshOver zs a d) p) noDevice (ap flag (past-ten (deviceAt p) (omega arith)) ∙ flag-of false)
-            (ap flag (past-ten (deviceAt p + 1) (omega arith)) ∙ flag-of false)
-            (same-id (past-ten (deviceAt p + 2) (omega arith)) (past-ten (deviceAt p + 3) (omega arith))) (no-mask (deviceAt p + 4) (omega arith))
-            (no-mask (deviceAt p + 8) (omega arith)) (no-mask (deviceAt p + 12) (omega arith))
+          (ap flag (past-ten (deviceAt p + 1) (omega arith)) ∙ flag-of false)
+          (same-id (past-ten (deviceAt p + 2) (omega arith)) (past-ten (deviceAt p + 3) (omega arith))) (no-mask (deviceAt p + 4) (omega arith))
+          (no-mask (deviceAt p + 8) (omega arith)) (no-mask (deviceAt p + 12) (omega arith))
       go false e = device-past (freshOver zs a d) p (ltb-false p places e)
 
   fresh-over : a ≤ 255 → d ≤ 255 → stateIn (freshOver zs a d) qs ≡ fresh (record { adapter = a; domain = d })
