@@ -57,11 +57,11 @@ number-from zero k b s = omega arith
 number-from (suc n) k b s =
     let m = min b (dueAt s k) in
     let rest : sumFrom n (suc k) (dueAt (moves m k s)) ≡ sumFrom n (suc k) (dueAt s) =
-        sum-from-cong n (suc k) (dueAt (moves m k s)) (dueAt s) (λ j l. moves-other m k j s (λ e. omega arith))
+    sum-from-cong n (suc k) (dueAt (moves m k s)) (dueAt s) (λ j l. moves-other m k j s (λ e. omega arith))
     in
     let here : length (replicate m (move (k / 256) (k % 256))) ≡ m = length-replicate m (move (k / 256) (k % 256)) in
     let all : length (replicate m (move (k / 256) (k % 256)) ++ sweepStepsFrom n (suc k) (b - m) (moves m k s)) ≡ length (replicate m (move (k / 256) (k % 256))) + length (sweepStepsFrom n (suc k) (b - m) (moves m k s)) =
-        length-append (replicate m (move (k / 256) (k % 256))) (sweepStepsFrom n (suc k) (b - m) (moves m k s))
+    length-append (replicate m (move (k / 256) (k % 256))) (sweepStepsFrom n (suc k) (b - m) (moves m k s))
     in
     omega (arith, all, here, rest, number-from n (suc k) (b - m) (moves m k s))
 
@@ -84,9 +84,10 @@ due-same : (m k : ℕ) (s : State) → k < queues → m ≤ dueAt s k → AllDue
 unfolding AllDue
 due-same zero k s h l = tt
 due-same (suc m) k s h l =
-    let more : m ≤ dueAt (Queues.move k s) k = omega (arith, due-here k s, spent-at k s) in
-    (subst (λ (q : ℕ). moveAnswer q s ≡ Idle → ⊥) (sym (queue-same k h)) (not-idle k s (omega arith)),
-    subst (λ (q : ℕ). AllDue (replicate m (move (k / 256) (k % 256))) (Queues.move q s)) (sym (queue-same k h)) (due-same m k (Queues.move k s) h more))
+    let more : m ≤ dueAt (Queues.move k s) k = omega (arith, due-here k s, spent-at k s) in (
+      subst (λ (q : ℕ). moveAnswer q s ≡ Idle → ⊥) (sym (queue-same k h)) (not-idle k s (omega arith)),
+      subst (λ (q : ℕ). AllDue (replicate m (move (k / 256) (k % 256))) (Queues.move q s)) (sym (queue-same k h)) (due-same m k (Queues.move k s) h more),
+    )
 
 due-from : (n k b : ℕ) (s : State) → k + n ≤ queues → AllDue (sweepStepsFrom n k b s) s
 unfolding sweepStepsFrom AllDue
