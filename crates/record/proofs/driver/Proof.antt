@@ -33,7 +33,7 @@ returns-2 c = rw (c .if2 .taken)
 
 returns-3 : tie.Need-returns-3
 unfolding driverOf
-returns-3 c = 
+returns-3 c =
     let a = c .before .before .before .before .before .args in
     let b = getD (a .q .now) (a .a .0 * 256 + a .d .0) 0 in
     rw (ne-eqb b 1 (c .before .if1 .left), ne-eqb b 2 (c .if2 .left))

@@ -24,7 +24,7 @@ element-copy-out-result c = search needs
 
 returns : tie.Need-returns
 unfolding configIn
-returns c = 
+returns c =
     let a = c .before .before .args .a .0 in
     sym (cond-below a 256 (getD (c .before .before .args .s .now) (22 + a) 0) 0 (omega arith))
 

@@ -26,13 +26,13 @@ element-copy-out-result c = search needs
 
 returns : tie.Need-returns
 unfolding flag
-returns c = 
+returns c =
     let a = c .before .before .args in
     ap (λ (v : Device). v .isOpen) (sym (device-there (a .s .now) (a .p) (omega arith)))
 
 returns-2 : tie.Need-returns-2
 unfolding noDevice
-returns-2 c = 
+returns-2 c =
     let a = c .before .args in
     ap (λ (v : Device). v .isOpen) (sym (device-past (a .s .now) (a .p) (omega arith)))
 

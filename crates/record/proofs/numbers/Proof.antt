@@ -31,7 +31,7 @@ mask-at-requires c κs = omega (arith, kind-small (c .before .before .args .k))
 
 returns : tie.Need-returns
 unfolding maskAt
-returns c = 
+returns c =
     let a = c .before .before .before .args in
     ap (bitAt 64) (c .mask-at .ensures) ∙ ap (λ (n : ℕ). maskAt (a .s .now) (278 + a .p * 16 + n)) (c .before .kind-at .ensures)
     ∙ sym (numbers-there (a .s .now) (a .p) (a .k)) ∙ ap (numbersOf (a .k)) (sym (device-there (a .s .now) (a .p) (omega arith)))
@@ -41,7 +41,7 @@ empty-requires c κs = search needs
 
 returns-2 : tie.Need-returns-2
 unfolding numbersOf noDevice
-returns-2 c = 
+returns-2 c =
     let a = c .before .before .args in
     c .empty .ensures ∙ none (a .k) ∙ ap (numbersOf (a .k)) (sym (device-past (a .s .now) (a .p) (omega arith)))
   where

@@ -42,7 +42,7 @@ put-mask-requires-4 c κs = search needs
 
 returns : tie.Need-returns
 unfolding putDevice
-returns c = 
+returns c =
     let a = c .before .before .before .before .before .before .before .before .before .before .args in
     let k = 278 + a .p * 16 in
     c .put-mask4 .ensures ∙ ap (λ (l : List ℕ). putFour l (k + 12) zeros)
@@ -56,7 +56,7 @@ returns c =
 
 returns-2 : tie.Need-returns-2
 unfolding putDevice
-returns-2 c = 
+returns-2 c =
     let a = c .before .args in
     sym (cond-past (a .p) places _ (a .s .now) (omega arith))
 

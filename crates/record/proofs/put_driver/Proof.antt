@@ -35,7 +35,7 @@ element-write-q c = search needs
 
 returns : tie.Need-returns
 unfolding byteOf
-returns c = 
+returns c =
     let a = c .before .before .before .args in
     ap (set (a .q .now) (a .a .0 * 256 + a .d .0))
     (⊎-elim (λ w. w .2 ∙ sym (ap byteOf (w .1 .given .1)))

@@ -22,7 +22,7 @@ put-mask-requires-2 c κs = search needs
 
 returns : tie.Need-returns
 unfolding freshWords
-returns c = 
+returns c =
     c .put-mask2 .ensures ∙ ap (λ (l : List ℕ). putFour l 6 (ones ∷ ones ∷ ones ∷ ones ∷ [])) (c .before .before .put-mask .ensures)
 
 pub put-fresh-spec : {M : Type 1} → statement M

@@ -27,14 +27,14 @@ put-mask-requires c κs = omega (arith, kind-small (c .before .before .before .a
 
 returns : tie.Need-returns
 unfolding putNumbers
-returns c = 
+returns c =
     let a = c .before .before .before .before .args in
     c .put-mask .ensures ∙ ap (λ (n : ℕ). putFour (a .s .now) (278 + a .p * 16 + n) (a .m .words)) (c .before .kind-at .ensures)
     ∙ sym (cond-below (a .p) places (putFour (a .s .now) (deviceAt (a .p) + kindAt (a .k)) (a .m .words)) (a .s .now) (omega arith))
 
 returns-2 : tie.Need-returns-2
 unfolding putNumbers
-returns-2 c = 
+returns-2 c =
     let a = c .before .args in
     sym (cond-past (a .p) places (putFour (a .s .now) (deviceAt (a .p) + kindAt (a .k)) (a .m .words)) (a .s .now) (omega arith))
 

@@ -30,7 +30,7 @@ element-write-s c = search needs
 
 returns : tie.Need-returns
 unfolding putOpen
-returns c = 
+returns c =
     let a = c .before .before .args in
     ap (set (a .s .now) (278 + a .p * 16 + 1))
     (⊎-elim (λ w. w .1 ∙ sym (ap (λ (b : Bool). cond b 1 0) (w .0 .taken))) (λ w. w .1 ∙ sym (ap (λ (b : Bool). cond b 1 0) (w .0 .left))) (c .if2 .came))
@@ -38,7 +38,7 @@ returns c =
 
 returns-2 : tie.Need-returns-2
 unfolding putOpen
-returns-2 c = 
+returns-2 c =
     let a = c .before .args in
     sym (cond-past (a .p) places (set (a .s .now) (deviceAt (a .p) + 1) (cond (a .opened) 1 0)) (a .s .now) (omega arith))
 

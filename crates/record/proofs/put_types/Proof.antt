@@ -51,17 +51,18 @@ loop-less : tie.Need-loop-less Inv-loop μ-loop
 loop-less c = search needs
 
 loop-again : tie.Need-loop-again Inv-loop μ-loop
-loop-again c = 
+loop-again c =
     let a = c .before .before .before .loop .a in
     let h : a < 256 = omega arith in
-    let r = c .before .before .before .before .args in
-    (omega arith,
-    types-next (r .s .now) (c .before .before .before .loop .s) (λ i. cond (bits (r .adapters) i) (getD (r .t3) i 0) 0) a (c .type-of .result)
-    (c .before .before .before .loop .inv .1)
-    (c .type-of .ensures ∙ ap (λ (b : Bool). cond b (getD (r .t3) a 0) 0) (c .before .has .ensures ∙ ap (bits (r .adapters)) (mod-eq-of-lt h))))
+    let r = c .before .before .before .before .args in (
+      omega arith,
+      types-next (r .s .now) (c .before .before .before .loop .s) (λ i. cond (bits (r .adapters) i) (getD (r .t3) i 0) 0) a (c .type-of .result)
+          (c .before .before .before .loop .inv .1)
+          (c .type-of .ensures ∙ ap (λ (b : Bool). cond b (getD (r .t3) a 0) 0) (c .before .has .ensures ∙ ap (bits (r .adapters)) (mod-eq-of-lt h))),
+    )
 
 returns : tie.Need-returns Inv-loop μ-loop
-returns c = 
+returns c =
     let r = c .before .before .args in
     let last : c .before .loop .a ≡ 256 = omega arith in
     c .before .loop .inv .1 ∙ ap (putTypes (r .s .now) (λ i. cond (bits (r .adapters) i) (getD (r .t3) i 0) 0)) last
