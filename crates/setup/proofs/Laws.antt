@@ -38,5 +38,5 @@ makes a d ws vs qs rs h k e f =
       answer = sym (within a d h k);
       words = e;
       drivers = f;
-      state = λ z. ap₂ stateIn e f ∙ read-fresh a d h k
+      state = λ z. ap₂ stateIn e f ∙ read-fresh a d h k;
     }
