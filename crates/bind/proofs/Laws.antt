@@ -5,23 +5,31 @@ use native.Mathlib.Nat.{le-refl}
 use native.Mathlib.Numerals.{add-one}
 use native.Mathlib.Omega.{arith}
 use mathlib.Core.Path.{_≡_, refl, sym, ap, ap₂, subst, _∙_, fun-ext}
-use mathlib.Core.Bool.{Bool, true, false, cond}
+use mathlib.Core.Bool.{Bool, true, false, cond, _&&_}
 use mathlib.Core.List.{List}
 use lib.ListN.{length, getD, set, length-set}
 use lib.Seq.{getD-set-other}
-use lib.Dec.{eqb}
+use lib.Dec.{eqb, leb}
 use borrow.Author.Tests.{eqb-true}
 use Rattle.rules.specs.declared.Driver.{Driver}
 use Rattle.rules.specs.declared.Driver.the-variants.{Unbound, Host, Passthrough}
 use Rattle.rules.specs.declared.Moved.{Moved}
 use Rattle.rules.specs.declared.Moved.the-variants.{Idle, Released, BoundHost, BoundPassthrough}
-use Rattle.rules.specs.State.{State, queues}
-use Rattle.rules.specs.Queues.{targetOf, after, due, dueAt, sumBelow, remaining, rebound, moveAnswer, move, moves, sweepFrom}
+use Rattle.rules.specs.State.{State, HostMasks, Config, queues}
+use Rattle.rules.specs.Queues.{reserved, configured, targetOf, moved, after, due, dueAt, sumBelow, remaining, rebound, moveAnswer, move, moves, sweepFrom}
+use Rattle.rules.proofs.Products.{in-product, queue-apid}
 use Rattle.rules.proofs.Sums.{sum-more}
 use Rattle.rules.proofs.Moves.{due-le, sumFrom, sum-split, sum-all, all-due, remaining-sweep}
 use Rattle.record.specs.Layout.{stateIn, hostIn, configIn, driverOf, byteOf}
 use Rattle.record.proofs.Laws.{read-rebound}
 use Rattle.bind.specs.Moves.{bytesAfter, moveBytes, movesBytes, sweepBytes}
+
+-- the target of a queue, by its adapter and its domain
+pub target-by : (h : HostMasks) (c : Config) (a d : ℕ) → d < 256
+    → targetOf h c (a * 256 + d)
+    ≡ cond (c .adapters a && c .domains d) (cond (h .apmask a && h .aqmask d) Host (cond (leb 10 (c .types a)) Passthrough Unbound)) Unbound
+unfolding targetOf configured reserved
+target-by h c a d l = rw (in-product (c .adapters) (c .domains) a d l, in-product (h .apmask) (h .aqmask) a d l, queue-apid a d l)
 
 -- ---- moves
 
@@ -96,6 +104,16 @@ unfolding movesBytes
 moves-other-byte ws zero n qs j h = refl
 moves-other-byte ws (suc m) n qs j h = moves-other-byte ws m n (moveBytes ws n qs) j h ∙ move-other ws qs n j h
 
+-- what a move answers, by the queue's byte and its target
+pub answer-read : (ws qs : List ℕ) (n : ℕ) → moved (driverOf (getD qs n 0)) (targetOf (hostIn ws) (configIn ws) n) ≡ moveAnswer n (stateIn ws qs)
+unfolding moveAnswer stateIn
+answer-read ws qs n = refl
+
+-- the bytes after a move whose answer is known
+pub bytes-by : (ws qs : List ℕ) (n : ℕ) (m : Moved) → m ≡ moveAnswer n (stateIn ws qs) → bytesAfter m n qs ≡ moveBytes ws n qs
+unfolding moveBytes
+bytes-by ws qs n m e = ap (λ (x : Moved). bytesAfter x n qs) e
+
 -- no move, one and two
 pub no-moves : (ws : List ℕ) (n : ℕ) (qs : List ℕ) → movesBytes ws 0 n qs ≡ qs
 unfolding movesBytes
@@ -115,6 +133,15 @@ two-moves ws n qs = refl
 pub due-read : (ws qs : List ℕ) (j : ℕ) → dueAt (stateIn ws qs) j ≡ due (driverOf (getD qs j 0)) (targetOf (hostIn ws) (configIn ws) j)
 unfolding dueAt stateIn
 due-read ws qs j = refl
+
+-- the queue of k's adapter and domain is k
+pub queue-split : (k : ℕ) → k < 65536 → k / 256 % 256 * 256 + k % 256 ≡ k
+queue-split k h = omega arith
+
+pub due-split : (ws qs : List ℕ) (k : ℕ) → k < 65536
+    → due (driverOf (getD qs (k / 256 % 256 * 256 + k % 256) 0)) (targetOf (hostIn ws) (configIn ws) (k / 256 % 256 * 256 + k % 256))
+    ≡ dueAt (stateIn ws qs) k
+due-split ws qs k h = rw (queue-split k h) (sym (due-read ws qs k))
 
 pub due-two : (s : State) (j : ℕ) → dueAt s j ≤ 2
 unfolding dueAt
@@ -176,7 +203,7 @@ pub record Sweeping (ws rs : List ℕ) (n b k left : ℕ) (qs : List ℕ) : Type
   pub made : b ≡ left + sumBelow k (dueAt (stateIn ws rs))
   pub ahead : (j : ℕ) → k ≤ j → getD qs j 0 ≡ getD rs j 0
 
-sum-none : (f : ℕ → ℕ) → sumBelow 0 f ≡ 0
+pub sum-none : (f : ℕ → ℕ) → sumBelow 0 f ≡ 0
 unfolding sumBelow
 sum-none f = refl
 

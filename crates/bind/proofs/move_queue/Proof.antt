@@ -49,19 +49,19 @@ put-driver-requires-3 c κs = search needs
 
 -- src/lib.rt:54:1
 returns : tie.Need-returns
-returns c = search needs
+returns c = ?
 
 -- src/lib.rt:54:1
 returns-2 : tie.Need-returns-2
-returns-2 c = search needs
+returns-2 c = ?
 
 -- src/lib.rt:54:1
 returns-3 : tie.Need-returns-3
-returns-3 c = search needs
+returns-3 c = ?
 
 -- src/lib.rt:54:1
 returns-4 : tie.Need-returns-4
-returns-4 c = search needs
+returns-4 c = ?
 
 pub move-queue-spec : {M : Type 1} → statement M
 move-queue-spec =

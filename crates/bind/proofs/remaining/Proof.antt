@@ -1,3 +1,13 @@
+-- `remaining` meets its contract. The invariant: the sum is that of the queues passed.
+-- Assumes nothing.
+use Prim.Native.Nat.{ℕ, _-_, _≤_}
+use native.Mathlib.Omega.{arith}
+use mathlib.Core.Path.{_≡_, sym, ap, _∙_}
+use denote.Ref.{now}
+use Rattle.rules.specs.Queues.{dueAt, sumBelow, remaining}
+use Rattle.rules.proofs.Sums.{sum-more, sum-le}
+use Rattle.record.specs.Layout.{stateIn}
+use Rattle.bind.proofs.Laws.{sum-none, due-two}
 use borrow.Author.Needs.{needs}
 use Rattle.bind.proofs.remaining.Statement.{statement}
 use Rattle.bind.proofs.remaining.Tie as tie
@@ -6,38 +16,36 @@ use Rattle.bind.proofs.remaining.Lts as lts
 use Rattle.bind.proofs.due_at.Reads as due-at-reads
 
 abbrev Inv-loop : tie.InvT-loop
-Inv-loop s q sum₀ k₀ sum k = ?
+Inv-loop s q sum₀ k₀ sum k = (k ≤ 65536) × (sum ≡ sumBelow k (dueAt (stateIn s q)))
 
 abbrev μ-loop : tie.MeasureT-loop
-μ-loop s q sum₀ k₀ sum k = ?
+μ-loop s q sum₀ k₀ sum k = 65536 - k
 
--- src/lib.rt:134:5
 loop-holds : tie.Need-loop-holds Inv-loop μ-loop
-loop-holds c = search needs
+loop-holds c = (search needs, sym (sum-none (dueAt (stateIn (now (c .args .s)) (now (c .args .q))))))
 
--- src/lib.rt:135:16
 due-at-requires : tie.Need-due-at-requires Inv-loop μ-loop
 due-at-requires c κs = search needs
 
--- src/lib.rt:135:9
 add-sum : tie.Need-add-sum Inv-loop μ-loop
-add-sum c = search needs
+add-sum c =
+    let s = stateIn (now (c .before .before .before .args .s)) (now (c .before .before .before .args .q)) in
+    omega (arith, c .due-at .ensures, due-two s (c .before .before .loop .k), sum-le (c .before .before .loop .k) 2 (dueAt s) (due-two s))
 
--- src/lib.rt:136:9
 add-k : tie.Need-add-k Inv-loop μ-loop
 add-k c = search needs
 
--- src/lib.rt:134:5
 loop-less : tie.Need-loop-less Inv-loop μ-loop
 loop-less c = search needs
 
--- src/lib.rt:134:5
 loop-again : tie.Need-loop-again Inv-loop μ-loop
-loop-again c = search needs
+loop-again c = (search needs, rw (c .before .before .loop .inv .1, c .due-at .ensures, sum-more))
 
--- src/lib.rt:129:1
 returns : tie.Need-returns Inv-loop μ-loop
-returns c = search needs
+unfolding remaining
+returns c =
+    let e : c .before .loop .k ≡ 65536 = omega arith in
+    c .before .loop .inv .1 ∙ ap (λ (i : ℕ). sumBelow i (dueAt (stateIn (now (c .before .before .args .s)) (now (c .before .before .args .q))))) e
 
 pub remaining-spec : {M : Type 1} → statement M
 remaining-spec =

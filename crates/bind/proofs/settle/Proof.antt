@@ -15,7 +15,7 @@ cast-t9-2 c = search needs
 
 -- src/lib.rt:177:9
 returns : tie.Need-returns
-returns c = search needs
+returns c = ?
 
 -- src/lib.rt:179:5
 move-queue-requires : tie.Need-move-queue-requires
@@ -23,7 +23,7 @@ move-queue-requires c κs = search needs
 
 -- src/lib.rt:181:9
 returns-2 : tie.Need-returns-2
-returns-2 c = search needs
+returns-2 c = ?
 
 -- src/lib.rt:183:5
 move-queue-requires-2 : tie.Need-move-queue-requires-2
@@ -31,7 +31,7 @@ move-queue-requires-2 c κs = search needs
 
 -- src/lib.rt:170:1
 returns-3 : tie.Need-returns-3
-returns-3 c = search needs
+returns-3 c = ?
 
 pub settle-spec : {M : Type 1} → statement M
 settle-spec =
