@@ -5,12 +5,12 @@ use native.Mathlib.Nat.{le-refl}
 use native.Mathlib.Numerals.{add-one}
 use native.Mathlib.Omega.{arith}
 use mathlib.Core.Path.{_≡_, refl, sym, ap, ap₂, subst, _∙_, fun-ext}
-use mathlib.Core.Bool.{Bool, true, false, cond, _&&_}
+use mathlib.Core.Bool.{Bool, true, false, cond, not, _&&_}
 use mathlib.Core.List.{List}
 use lib.ListN.{length, getD, set, length-set}
 use lib.Seq.{getD-set-other}
-use lib.Dec.{eqb, leb}
-use borrow.Author.Tests.{eqb-true}
+use lib.Dec.{eqb, ltb, leb}
+use borrow.Author.Tests.{eqb-true, eq-eqb, ne-eqb, ltb-true, ltb-false}
 use Rattle.rules.specs.declared.Driver.{Driver}
 use Rattle.rules.specs.declared.Driver.the-variants.{Unbound, Host, Passthrough}
 use Rattle.rules.specs.declared.Moved.{Moved}
@@ -23,6 +23,15 @@ use Rattle.rules.proofs.Moves.{due-le, sumFrom, sum-split, sum-all, all-due, re
 use Rattle.record.specs.Layout.{stateIn, hostIn, configIn, driverOf, byteOf}
 use Rattle.record.proofs.Laws.{read-rebound}
 use Rattle.bind.specs.Moves.{bytesAfter, moveBytes, movesBytes, sweepBytes}
+
+-- a test that is turned round
+pub not-true : (b : Bool) → not b ≡ true → b ≡ false
+not-true true e = sym e
+not-true false e = refl
+
+pub not-false : (b : Bool) → not b ≡ false → b ≡ true
+not-false true e = refl
+not-false false e = sym e
 
 -- the target of a queue, by its adapter and its domain
 pub target-by : (h : HostMasks) (c : Config) (a d : ℕ) → d < 256
@@ -248,3 +257,34 @@ module _ (ws rs : List ℕ) (n b k left : ℕ) (qs : List ℕ) (w : Sweeping ws 
       let all : sumBelow (k + 1) f + sumFrom (n - (k + 1)) (k + 1) f ≡ sumBelow n f =
       sum-split (n - (k + 1)) (k + 1) f ∙ ap (λ (i : ℕ). sumBelow i f) c in
       omega (arith, w .made, due-now, sum-more k f, all)
+
+-- every queue is passed
+pub sweep-ends : (ws rs : List ℕ) (n b k left : ℕ) (qs : List ℕ) → Sweeping ws rs n b k left qs → n ≤ k
+    → (qs ≡ sweepBytes ws n 0 b rs) × (b ≡ left + sumBelow n (dueAt (stateIn ws rs)))
+sweep-ends ws rs n b k left qs w h =
+    let e : k ≡ n = omega (arith, w .below) in (
+      sym (w .bytes ∙ sweep-none ws (n - k) k left qs (omega arith)),
+      w .made ∙ ap (λ (i : ℕ). left + sumBelow i (dueAt (stateIn ws rs))) e,
+    )
+
+pub remaining-sum : (s : State) → sumBelow queues (dueAt s) ≡ remaining s
+unfolding remaining
+remaining-sum s = refl
+
+-- a sweep of all queues leaves what its budget did not reach
+pub remaining-bytes : (ws rs : List ℕ) (b : ℕ) → queues ≤ length rs
+    → remaining (stateIn ws (sweepBytes ws queues 0 b rs)) + min b (remaining (stateIn ws rs)) ≡ remaining (stateIn ws rs)
+remaining-bytes ws rs b h =
+    rw (read-sweep ws queues 0 b rs (omega arith), sym (all-due (stateIn ws rs)))
+    (remaining-sweep queues 0 b (stateIn ws rs) (omega arith) ∙ sym (all-due (stateIn ws rs)))
+
+-- moves remain after it exactly where the budget is below those before it
+pub sweep-more : (ws rs qs : List ℕ) (b : ℕ) → queues ≤ length rs → qs ≡ sweepBytes ws queues 0 b rs
+    → not (eqb (remaining (stateIn ws qs)) 0) ≡ ltb b (remaining (stateIn ws rs))
+sweep-more ws rs qs b h e =
+    ap (λ (x : List ℕ). not (eqb (remaining (stateIn ws x)) 0)) e
+    ∙ go (remaining (stateIn ws (sweepBytes ws queues 0 b rs))) (remaining (stateIn ws rs)) (remaining-bytes ws rs b h) (ltb b (remaining (stateIn ws rs))) refl
+  where
+    go : (x r : ℕ) → x + min b r ≡ r → (t : Bool) → ltb b r ≡ t → not (eqb x 0) ≡ t
+    go x r f true l = let below : b < r = ltb-true b r l in ap not (ne-eqb x 0 (λ z. omega arith))
+    go x r f false l = let past : r ≤ b = ltb-false b r l in ap not (eq-eqb x 0 (omega arith))
