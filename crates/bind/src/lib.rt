@@ -46,11 +46,10 @@ pub fn target(s: &[u64; WORDS], a: Apid, d: Apqi) -> Driver
 fn reserved(s: &[u64; WORDS], n: u8, m: u8) -> bool
     ensures { λ r. ⌜ r ≡ (hostIn (now (s .entry)) .apmask n && hostIn (now (s .entry)) .aqmask m) ⌝ }
 {
-    if record::apmask(s).has(n) {
-        record::aqmask(s).has(m)
-    } else {
-        false
+    if !record::apmask(s).has(n) {
+        return false;
     }
+    record::aqmask(s).has(m)
 }
 
 // Moves one queue a step towards its target. It is never refused.
@@ -150,7 +149,7 @@ pub fn sweep(s: &[u64; WORDS], q: &mut [u8; 65536], budget: u32) -> Swept
     record::hold_drivers(q);
     let most = if budget < 131072 { budget } else { 131072 };
     let mut left = most;
-    let mut k = 0usize;
+    let mut k: usize = 0;
     while k < 65536 {
         let n = due_at(s, q, k);
         if left < n {

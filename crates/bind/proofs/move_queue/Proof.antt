@@ -1,6 +1,6 @@
 -- `move_queue` meets its contract: a return for each answer.
 -- Assumes nothing.
-use Prim.Native.Nat.{_+_, _*_}
+use Prim.Native.Nat.{ℕ, _+_, _*_}
 use mathlib.Core.Path.{_≡_, sym, ap₂, _∙_}
 use denote.Ref.{now}
 use Rattle.rules.specs.declared.Moved.{Moved}
@@ -43,22 +43,24 @@ enum-told-4 c = search needs
 put-driver-requires-3 : tie.Need-put-driver-requires-3
 put-driver-requires-3 c κs = search needs
 
--- the answer
+-- the queue
+abbrev queue : tie.Start → ℕ
+queue c = c .args .a .0 * 256 + c .args .d .0
+
 answered : (c : tie.After-moved-by) → c .moved-by .result
-    ≡ moveAnswer (c .before .before .before .before .args .a .0 * 256 + c .before .before .before .before .args .d .0)
-    (stateIn (now (c .before .before .before .before .args .s)) (now (c .before .before .before .before .args .q)))
+    ≡ moveAnswer (queue (c .before .before .before .before)) (stateIn (now (c .before .before .before .before .args .s)) (now (c .before .before .before .before .args .q)))
 answered c =
     let a = c .before .before .before .before .args in
     c .moved-by .ensures ∙ ap₂ moved (c .before .before .driver .ensures) (c .before .target .ensures)
-    ∙ answer-read (now (a .s)) (now (a .q)) (a .a .0 * 256 + a .d .0)
+    ∙ answer-read (now (a .s)) (now (a .q)) (queue (c .before .before .before .before))
 
 -- the bytes of a known answer
 written : (c : tie.After-moved-by) (m : Moved) → c .moved-by .result ≡ m
-    → bytesAfter m (c .before .before .before .before .args .a .0 * 256 + c .before .before .before .before .args .d .0) (now (c .before .before .before .before .args .q))
-    ≡ moveBytes (now (c .before .before .before .before .args .s)) (c .before .before .before .before .args .a .0 * 256 + c .before .before .before .before .args .d .0) (now (c .before .before .before .before .args .q))
+    → bytesAfter m (queue (c .before .before .before .before)) (now (c .before .before .before .before .args .q))
+    ≡ moveBytes (now (c .before .before .before .before .args .s)) (queue (c .before .before .before .before)) (now (c .before .before .before .before .args .q))
 written c m e =
     let a = c .before .before .before .before .args in
-    bytes-by (now (a .s)) (now (a .q)) (a .a .0 * 256 + a .d .0) m (sym e ∙ answered c)
+    bytes-by (now (a .s)) (now (a .q)) (queue (c .before .before .before .before)) m (sym e ∙ answered c)
 
 returns : tie.Need-returns
 unfolding bytesAfter
