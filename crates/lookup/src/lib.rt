@@ -1,6 +1,6 @@
 // Looking through the devices of a record: the place of an id, a free place, and whether a product is assigned.
 //
-// Rests on mask, rules and record.
+// Rests on errno, mask, rules and record.
 use mask::Mask;
 use record::PLACES;
 use record::WORDS;
