@@ -12,7 +12,7 @@ use Rattle.rules.specs.Commands.{errnoOf}
 use Rattle.record.specs.Layout.{stateIn}
 use Rattle.model.specs.Steps.{Step, command, move, queueOf, rule, after, afterAll}
 use Rattle.model.specs.Demand3.{Demand3}
-use Rattle.run.specs.Encoding.{decode}
+use Rattle.encoding.specs.Encoding.{decode}
 
 -- a move's answer as a byte
 unfoldable pub movedByte : Moved → ℕ
