@@ -22,6 +22,7 @@ ghost use Rattle.rules.specs.State.{places};
 ghost use Rattle.rules.specs.Queues.{matrixAdapters, matrixDomains, matrixControls, usable};
 ghost use Rattle.rules.specs.Commands.{answered, placeOf};
 ghost use Rattle.record.specs.Layout.{stateIn, deviceIn};
+ghost use Rattle.guest.specs.Row.{heldBack};
 
 // The masks of a device, or a refusal and empty masks where no device has the id.
 pub struct Shown {
@@ -95,7 +96,9 @@ pub fn usable(s: &[u64; WORDS], q: &[u8; 65536], i: Id, a: Apid, d: Apqi) -> boo
 }
 
 // The adapters of which every queue of the domains is bound to passthrough.
-fn passed_adapters(q: &[u8; 65536], adapters: Mask, domains: Mask) -> Mask {
+fn passed_adapters(q: &[u8; 65536], adapters: Mask, domains: Mask) -> Mask
+    ensures { λ r. ⌜ bits r ≡ (λ j. bits adapters j && not (heldBack (now (q .entry)) (bits domains) j)) ⌝ }
+{
     let mut m = adapters;
     let mut a = 0usize;
     while a < 256 {
@@ -108,6 +111,7 @@ fn passed_adapters(q: &[u8; 65536], adapters: Mask, domains: Mask) -> Mask {
 // A mask with adapter a dropped, if it is there and one of its queues is not passed through.
 fn kept_adapter(q: &[u8; 65536], a: usize, m: Mask, domains: Mask) -> Mask
     requires { ⌜ a < 256 ⌝ }
+    ensures { λ r. ⌜ bits r ≡ (λ j. bits m j && not (eqb j a && heldBack (now (q .entry)) (bits domains) j)) ⌝ }
 {
     if m.has((a % 256) as u8) {
         if !row_passed(q, a, domains) {
@@ -120,6 +124,7 @@ fn kept_adapter(q: &[u8; 65536], a: usize, m: Mask, domains: Mask) -> Mask
 // Whether every queue of adapter a and these domains is bound to passthrough.
 fn row_passed(q: &[u8; 65536], a: usize, domains: Mask) -> bool
     requires { ⌜ a < 256 ⌝ }
+    ensures { λ r. ⌜ r ≡ not (heldBack (now (q .entry)) (bits domains) a) ⌝ }
 {
     let mut d = 0usize;
     while d < 256 {
