@@ -8,11 +8,13 @@ use mathlib.Core.List.{List}
 use lib.ListN.{getD}
 use lib.Dec.{eqb, ltb}
 use borrow.Author.Tests.{eqb-true, eqb-false, eq-eqb, ne-eqb, ltb-true, ltb-false, lt-ltb, le-ltb}
-use Rattle.mask.specs.Bits.{Bits}
+use lib.Arith.{digits-div, digits-mod}
+use Rattle.mask.specs.Bits.{Bits, both}
 use Rattle.rules.specs.declared.Driver.{Driver}
 use Rattle.rules.specs.declared.Driver.the-variants.{Unbound, Host, Passthrough}
-use Rattle.rules.specs.Queues.{passed}
-use Rattle.record.specs.Layout.{driverOf}
+use Rattle.rules.specs.State.{State, Device, Devices, inProduct}
+use Rattle.rules.specs.Queues.{passed, guestAdapters, guestDomains, usable}
+use Rattle.record.specs.Layout.{driverOf, configIn, stateIn}
 use Rattle.guest.specs.Row.{missing, heldBack}
 
 -- only byte 2 is passthrough
@@ -74,3 +76,17 @@ all-looked j b h past = go (ltb j 256) refl
     go : (t : Bool) → ltb j 256 ≡ t → (b && not (t && h)) ≡ (b && not h)
     go true e = refl
     go false e = let n : b ≡ false = past (ltb-false j 256 e) in ap (λ (x : Bool). x && true) n ∙ sym (ap (λ (x : Bool). x && not h) n)
+
+-- the guest's adapters, from the record in memory
+pub guest-adapters : (ws qs : List ℕ) (v : Device) {adapters domains : Bits} → adapters ≡ both (v .adapters) (configIn ws .adapters)
+    → domains ≡ guestDomains (stateIn ws qs) v → (λ j. adapters j && not (heldBack qs domains j)) ≡ guestAdapters (stateIn ws qs) v
+unfolding both guestAdapters stateIn heldBack missing
+guest-adapters ws qs v p q = ap₂ (λ (f g : Bits). λ (j : ℕ). f j && not (heldBack qs g j)) p q
+
+-- the three tests of whether a guest can use a queue of the device at place p, which is place n
+pub usable-by : (s : State) (v : Devices) {p n : ℕ} (a d : ℕ) (x y z : Bool) → p ≡ n → d < 256 → v p .isOpen ≡ x → guestAdapters s (v p) a ≡ y
+    → guestDomains s (v p) d ≡ z → (x && (y && z)) ≡ usable s (v n) (a * 256 + d)
+unfolding usable inProduct
+usable-by s v {p} a d x y z e h i j k =
+    sym (ap₂ _&&_ i (ap₂ _&&_ (ap (guestAdapters s (v p)) (digits-div a h) ∙ j) (ap (guestDomains s (v p)) (digits-mod a h) ∙ k)))
+    ∙ ap (λ (m : ℕ). usable s (v m) (a * 256 + d)) e

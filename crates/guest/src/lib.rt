@@ -39,16 +39,20 @@ pub fn masks(s: &[u64; WORDS], q: &[u8; 65536], i: Id, w: Matrix) -> Shown
 {
     let p = lookup::find(s, i);
     let m = masks_at(s, q, p, w);
-    if p < PLACES {
-        return Shown {
-            answer: Answer::Done,
-            masks: m,
-        };
-    }
     Shown {
-        answer: Answer::Refused(Errno::Enoent),
+        answer: found(p),
         masks: m,
     }
+}
+
+// Whether a place is one of those there are.
+fn found(p: usize) -> Answer
+    ensures { λ r. ⌜ answered r ≡ cond (ltb p places) 0 2 ⌝ }
+{
+    if p < PLACES {
+        return Answer::Done;
+    }
+    Answer::Refused(Errno::Enoent)
 }
 
 // A matrix of the device at place p: nothing past the last place.

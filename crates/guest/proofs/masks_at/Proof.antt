@@ -1,4 +1,13 @@
+-- `masks_at` meets its contract.
+-- Assumes nothing.
+use mathlib.Core.Path.{sym, ap, ap₂, _∙_}
 use borrow.Author.Needs.{needs}
+use Rattle.mask.specs.Bits.{Bits, both}
+use Rattle.rules.specs.declared.Matrix.{Matrix}
+use Rattle.rules.specs.Commands.{numbersOf}
+use Rattle.rules.specs.Queues.{guestDomains, guestControls, matrixAdapters, matrixDomains, matrixControls}
+use Rattle.record.specs.Layout.{stateIn, deviceIn}
+use Rattle.guest.proofs.Laws.{guest-adapters}
 use Rattle.guest.proofs.masks_at.Statement.{statement}
 use Rattle.guest.proofs.masks_at.Tie as tie
 use Rattle.guest.proofs.masks_at.Reads as reads
@@ -10,61 +19,71 @@ use Rattle.record.proofs.configured_controls.Reads as configured-controls-reads
 use Rattle.record.proofs.configured_domains.Reads as configured-domains-reads
 use Rattle.record.proofs.numbers.Reads as numbers-reads
 
--- src/lib.rt:39:9
 numbers-requires : tie.Need-numbers-requires
 numbers-requires c κs = search needs
 
--- src/lib.rt:40:9
 numbers-requires-2 : tie.Need-numbers-requires-2
 numbers-requires-2 c κs = search needs
 
--- src/lib.rt:41:9
 numbers-requires-3 : tie.Need-numbers-requires-3
 numbers-requires-3 c κs = search needs
 
--- src/lib.rt:43:29
 enum-told : tie.Need-enum-told
 enum-told c = search needs
 
--- src/lib.rt:49:36
 enum-told-2 : tie.Need-enum-told-2
 enum-told-2 c = search needs
 
--- src/lib.rt:49:36
 configured-domains-requires : tie.Need-configured-domains-requires
 configured-domains-requires c κs = search needs
 
--- src/lib.rt:49:17
 and-requires : tie.Need-and-requires
 and-requires c κs = search needs
 
--- src/lib.rt:51:59
 configured-adapters-requires : tie.Need-configured-adapters-requires
 configured-adapters-requires c κs = search needs
 
--- src/lib.rt:51:46
 and-requires-2 : tie.Need-and-requires-2
 and-requires-2 c κs = search needs
 
--- src/lib.rt:51:27
 passed-adapters-requires : tie.Need-passed-adapters-requires
 passed-adapters-requires c κs = search needs
 
--- src/lib.rt:53:40
 configured-controls-requires : tie.Need-configured-controls-requires
 configured-controls-requires c κs = search needs
 
--- src/lib.rt:53:27
 and-requires-3 : tie.Need-and-requires-3
 and-requires-3 c κs = search needs
 
--- src/lib.rt:34:1
 returns : tie.Need-returns
-returns c = ?
+unfolding matrixAdapters matrixDomains matrixControls numbersOf
+returns c =
+    let a = c .before .before .before .before .before .args in
+    let s = stateIn (a .s .now) (a .q .now) in
+    let v = deviceIn (a .s .now) (a .p) in
+    let told = sym (c .enum-told .given .1) in (
+      c .before .before .before .before .numbers .ensures ∙ ap (λ (w : Matrix). matrixAdapters w s v) told,
+      (
+        c .before .before .before .numbers2 .ensures ∙ ap (λ (w : Matrix). matrixDomains w s v) told,
+        c .before .before .numbers3 .ensures ∙ ap (λ (w : Matrix). matrixControls w s v) told,
+      ),
+    )
 
--- src/lib.rt:34:1
 returns-2 : tie.Need-returns-2
-returns-2 c = ?
+unfolding matrixAdapters matrixDomains matrixControls numbersOf guestDomains guestControls stateIn
+returns-2 c =
+    let b = c .before .before .before .before .before in
+    let n = b .before .before .before .before in
+    let a = n .before .before .before .args in
+    let s = stateIn (a .s .now) (a .q .now) in
+    let v = deviceIn (a .s .now) (a .p) in
+    let told = sym (b .before .before .enum-told2 .given .1) in
+    let domains = b .and .ensures ∙ ap₂ both (n .before .numbers2 .ensures) (b .before .configured-domains .ensures) in
+    let adapters = c .before .before .before .and2 .ensures ∙ ap₂ both (n .before .before .numbers .ensures) (c .before .before .before .before .configured-adapters .ensures) in
+    let controls = c .and3 .ensures ∙ ap₂ both (n .numbers3 .ensures) (c .before .configured-controls .ensures) in (
+      c .before .before .passed-adapters .ensures ∙ guest-adapters (a .s .now) (a .q .now) v adapters domains ∙ ap (λ (w : Matrix). matrixAdapters w s v) told,
+      (domains ∙ ap (λ (w : Matrix). matrixDomains w s v) told, controls ∙ ap (λ (w : Matrix). matrixControls w s v) told),
+    )
 
 pub masks-at-spec : {M : Type 1} → statement M
 masks-at-spec =

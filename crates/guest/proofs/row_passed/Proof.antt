@@ -26,31 +26,24 @@ Inv-loop q a domains d₀ d = (d ≤ 256) × ((k : ℕ) → k < d → missing q 
 abbrev μ-loop : tie.MeasureT-loop
 μ-loop q a domains d₀ d = 256 - d
 
--- src/lib.rt:91:5
 loop-holds : tie.Need-loop-holds Inv-loop μ-loop
 loop-holds c = (omega arith, λ k h. absurd (omega arith))
 
--- src/lib.rt:92:24
 cast-has : tie.Need-cast-has Inv-loop μ-loop
 cast-has c = search needs
 
--- src/lib.rt:92:12
 has-requires : tie.Need-has-requires Inv-loop μ-loop
 has-requires c κs = search needs
 
--- src/lib.rt:93:18
 mul-if2 : tie.Need-mul-if2 Inv-loop μ-loop
 mul-if2 c = search needs
 
--- src/lib.rt:93:18
 add-if2 : tie.Need-add-if2 Inv-loop μ-loop
 add-if2 c = search needs
 
--- src/lib.rt:93:16
 element-copy-out-if2 : tie.Need-element-copy-out-if2 Inv-loop μ-loop
 element-copy-out-if2 c = search needs
 
--- src/lib.rt:94:17
 returns : tie.Need-returns Inv-loop μ-loop
 unfolding heldBack
 returns c =
@@ -61,15 +54,12 @@ returns c =
         (ap (bits (a .domains)) (sym (mod-eq-of-lt h)) ∙ sym (c .before .before .before .has .ensures) ∙ c .before .before .if1 .taken) (ne-eqb _ 2 (c .if2 .taken)) in
     ap not (sym (some-intro 256 (missing (a .q .now) (bits (a .domains)) (a .a)) d h lost))
 
--- src/lib.rt:97:9
 add-d : tie.Need-add-d Inv-loop μ-loop
 add-d c = search needs
 
--- src/lib.rt:91:5
 loop-less : tie.Need-loop-less Inv-loop μ-loop
 loop-less c = search needs
 
--- src/lib.rt:91:5
 loop-again : tie.Need-loop-again Inv-loop μ-loop
 loop-again c =
     let a = c .before .before .before .before .args in
@@ -81,7 +71,6 @@ loop-again c =
       below-more _ _ (l .inv .1) (⊎-elim (λ w. at true true (wanted ∙ w .0 .taken) (eq-eqb _ 2 (w .2 .left))) (λ w. at false _ (wanted ∙ w .left) refl) (c .if1 .came)),
     )
 
--- src/lib.rt:86:1
 returns-2 : tie.Need-returns-2 Inv-loop μ-loop
 unfolding heldBack
 returns-2 c =
