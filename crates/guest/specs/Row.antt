@@ -1,7 +1,7 @@
 -- What drops an adapter from a guest's masks, read from the driver bytes.
 -- Assumes nothing.
 use Prim.Native.Nat.{ℕ, _+_, _*_}
-use mathlib.Core.Bool.{Bool, not, _&&_}
+use mathlib.Core.Bool.{not, _&&_}
 use mathlib.Core.List.{List}
 use lib.ListN.{getD}
 use Rattle.mask.specs.Bits.{Bits, someBelow}

@@ -13,11 +13,10 @@ use rules::Kind;
 use rules::Masks;
 use rules::Matrix;
 ghost use mathlib.Core.Path.{_≡_};
-ghost use mathlib.Core.Bool.{cond, not, _&&_, true, false};
-ghost use lib.ListN.{getD};
+ghost use mathlib.Core.Bool.{cond, not, _&&_};
 ghost use lib.Dec.{eqb, ltb};
 ghost use Prim.Native.Nat.{_+_, _*_, _<_};
-ghost use Rattle.mask.specs.Bits.{bits, noBits, someBelow};
+ghost use Rattle.mask.specs.Bits.{bits};
 ghost use Rattle.rules.specs.State.{places};
 ghost use Rattle.rules.specs.Queues.{matrixAdapters, matrixDomains, matrixControls, usable};
 ghost use Rattle.rules.specs.Commands.{answered, placeOf};
@@ -45,7 +44,7 @@ pub fn masks(s: &[u64; WORDS], q: &[u8; 65536], i: Id, w: Matrix) -> Shown
     }
 }
 
-// Whether a place is one of those there are.
+// The answer for the place of an id: a refusal past the last place.
 fn found(p: usize) -> Answer
     ensures { λ r. ⌜ answered r ≡ cond (ltb p places) 0 2 ⌝ }
 {

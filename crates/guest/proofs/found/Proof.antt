@@ -7,8 +7,6 @@ use Rattle.rules.specs.Commands.{answered}
 use Rattle.record.proofs.Laws.{cond-below, cond-past}
 use Rattle.guest.proofs.found.Statement.{statement}
 use Rattle.guest.proofs.found.Tie as tie
-use Rattle.guest.proofs.found.Reads as reads
-use Rattle.guest.proofs.found.Lts as lts
 
 returns : tie.Need-returns
 unfolding answered

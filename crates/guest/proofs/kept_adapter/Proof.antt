@@ -3,7 +3,7 @@
 use Prim.Native.Nat.{ℕ, _<_}
 use native.Mathlib.Nat.{mod-eq-of-lt}
 use native.Mathlib.Omega.{arith}
-use mathlib.Core.Path.{_≡_, refl, sym, ap, _∙_, fun-ext}
+use mathlib.Core.Path.{_≡_, sym, ap, _∙_, fun-ext}
 use mathlib.Core.Bool.{Bool, true, false, not, _&&_, and-false}
 use lib.Dec.{eqb}
 use borrow.Author.Needs.{needs}
@@ -13,11 +13,6 @@ use Rattle.guest.specs.Row.{heldBack}
 use Rattle.guest.proofs.Laws.{not-there, dropped}
 use Rattle.guest.proofs.kept_adapter.Statement.{statement}
 use Rattle.guest.proofs.kept_adapter.Tie as tie
-use Rattle.guest.proofs.kept_adapter.Reads as reads
-use Rattle.guest.proofs.kept_adapter.Lts as lts
-use Rattle.guest.proofs.row_passed.Reads as row-passed-reads
-use Rattle.mask.proofs.Mask.has.Reads as has-reads
-use Rattle.mask.proofs.Mask.without.Reads as without-reads
 
 cast-has : tie.Need-cast-has
 cast-has c = search needs

@@ -10,11 +10,6 @@ use Rattle.rules.specs.Queues.{matrixAdapters, matrixDomains, matrixControls}
 use Rattle.record.specs.Layout.{stateIn, deviceIn}
 use Rattle.guest.proofs.masks.Statement.{statement}
 use Rattle.guest.proofs.masks.Tie as tie
-use Rattle.guest.proofs.masks.Reads as reads
-use Rattle.guest.proofs.masks.Lts as lts
-use Rattle.guest.proofs.found.Reads as found-reads
-use Rattle.guest.proofs.masks_at.Reads as masks-at-reads
-use Rattle.lookup.proofs.find.Reads as find-reads
 
 find-requires : tie.Need-find-requires
 find-requires c κs = search needs

@@ -2,7 +2,7 @@
 -- Assumes nothing.
 use mathlib.Core.Path.{sym, ap, ap₂, _∙_}
 use borrow.Author.Needs.{needs}
-use Rattle.mask.specs.Bits.{Bits, both}
+use Rattle.mask.specs.Bits.{both}
 use Rattle.rules.specs.declared.Matrix.{Matrix}
 use Rattle.rules.specs.Commands.{numbersOf}
 use Rattle.rules.specs.Queues.{guestDomains, guestControls, matrixAdapters, matrixDomains, matrixControls}
@@ -10,14 +10,6 @@ use Rattle.record.specs.Layout.{stateIn, deviceIn}
 use Rattle.guest.proofs.Laws.{guest-adapters}
 use Rattle.guest.proofs.masks_at.Statement.{statement}
 use Rattle.guest.proofs.masks_at.Tie as tie
-use Rattle.guest.proofs.masks_at.Reads as reads
-use Rattle.guest.proofs.masks_at.Lts as lts
-use Rattle.guest.proofs.passed_adapters.Reads as passed-adapters-reads
-use Rattle.mask.proofs.Mask.and.Reads as and-reads
-use Rattle.record.proofs.configured_adapters.Reads as configured-adapters-reads
-use Rattle.record.proofs.configured_controls.Reads as configured-controls-reads
-use Rattle.record.proofs.configured_domains.Reads as configured-domains-reads
-use Rattle.record.proofs.numbers.Reads as numbers-reads
 
 numbers-requires : tie.Need-numbers-requires
 numbers-requires c κs = search needs

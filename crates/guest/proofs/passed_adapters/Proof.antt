@@ -13,9 +13,6 @@ use Rattle.guest.specs.Row.{heldBack}
 use Rattle.guest.proofs.Laws.{next-look, all-looked}
 use Rattle.guest.proofs.passed_adapters.Statement.{statement}
 use Rattle.guest.proofs.passed_adapters.Tie as tie
-use Rattle.guest.proofs.passed_adapters.Reads as reads
-use Rattle.guest.proofs.passed_adapters.Lts as lts
-use Rattle.guest.proofs.kept_adapter.Reads as kept-adapter-reads
 
 abbrev Inv-loop : tie.InvT-loop
 Inv-loop q domains m₀ a₀ m a = (a ≤ 256) × ((j : ℕ) → bits m j ≡ (bits m₀ j && not (ltb j a && heldBack q (bits domains) j)))

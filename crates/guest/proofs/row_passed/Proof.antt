@@ -1,6 +1,6 @@
 -- `row_passed` meets its contract. The loop's invariant: no queue below d holds the adapter back.
 -- Assumes nothing.
-use Prim.Native.Nat.{ℕ, _+_, _*_, _-_, _≤_, _<_}
+use Prim.Native.Nat.{ℕ, _-_, _≤_, _<_}
 use native.Mathlib.Nat.{mod-eq-of-lt}
 use native.Mathlib.Omega.{arith}
 use mathlib.Core.Path.{_≡_, refl, sym, ap, _∙_}
@@ -9,16 +9,12 @@ use mathlib.Core.Bool.{true, false, not}
 use borrow.Author.Count.{below-more}
 use borrow.Author.Needs.{needs}
 use borrow.Author.Tests.{eq-eqb, ne-eqb}
-use lib.ListN.{getD}
 use Rattle.mask.specs.Bits.{bits}
 use Rattle.mask.proofs.Laws.{some-intro, none-some}
 use Rattle.guest.specs.Row.{missing, heldBack}
 use Rattle.guest.proofs.Laws.{missing-at}
 use Rattle.guest.proofs.row_passed.Statement.{statement}
 use Rattle.guest.proofs.row_passed.Tie as tie
-use Rattle.guest.proofs.row_passed.Reads as reads
-use Rattle.guest.proofs.row_passed.Lts as lts
-use Rattle.mask.proofs.Mask.has.Reads as has-reads
 
 abbrev Inv-loop : tie.InvT-loop
 Inv-loop q a domains d₀ d = (d ≤ 256) × ((k : ℕ) → k < d → missing q (bits domains) a k ≡ false)
@@ -51,7 +47,7 @@ returns c =
     let d = c .before .before .before .before .before .loop .d in
     let h : d < 256 = omega arith in
     let lost : missing (a .q .now) (bits (a .domains)) (a .a) d ≡ true = missing-at (a .q .now) (bits (a .domains)) (a .a) d true false
-        (ap (bits (a .domains)) (sym (mod-eq-of-lt h)) ∙ sym (c .before .before .before .has .ensures) ∙ c .before .before .if1 .taken) (ne-eqb _ 2 (c .if2 .taken)) in
+    (ap (bits (a .domains)) (sym (mod-eq-of-lt h)) ∙ sym (c .before .before .before .has .ensures) ∙ c .before .before .if1 .taken) (ne-eqb _ 2 (c .if2 .taken)) in
     ap not (sym (some-intro 256 (missing (a .q .now) (bits (a .domains)) (a .a)) d h lost))
 
 add-d : tie.Need-add-d Inv-loop μ-loop

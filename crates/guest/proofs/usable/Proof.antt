@@ -11,12 +11,6 @@ use Rattle.record.specs.Layout.{stateIn, deviceIn}
 use Rattle.guest.proofs.Laws.{usable-by}
 use Rattle.guest.proofs.usable.Statement.{statement}
 use Rattle.guest.proofs.usable.Tie as tie
-use Rattle.guest.proofs.usable.Reads as reads
-use Rattle.guest.proofs.usable.Lts as lts
-use Rattle.guest.proofs.masks_at.Reads as masks-at-reads
-use Rattle.lookup.proofs.find.Reads as find-reads
-use Rattle.mask.proofs.Mask.has.Reads as has-reads
-use Rattle.record.proofs.is_open.Reads as is-open-reads
 
 find-requires : tie.Need-find-requires
 find-requires c κs = search needs
