@@ -50,8 +50,10 @@ returns c =
     let bytes : c .settle .last .1 .0 ≡ sweepBytes ws 65536 0 most rs =
     c .settle .ensures ∙ sym (sweep-stops ws rs 65536 most (l .k) (l .left) (l .q) (l .inv .1) (omega arith) short) in (
       omega (arith, l .inv .0),
-      (sym (sweep-more ws rs (c .settle .last .1 .0) most (omega (arith, c .before .before .before .before .before .before .before .before .hold-drivers .ensures .long)) bytes ∙ lt-ltb most (remaining (stateIn ws rs)) fewer),
-      bytes ∙ ap (λ (b : ℕ). sweepBytes ws 65536 0 b rs) (l .inv .0)),
+      (
+        sym (sweep-more ws rs (c .settle .last .1 .0) most (omega (arith, c .before .before .before .before .before .before .before .before .hold-drivers .ensures .long)) bytes ∙ lt-ltb most (remaining (stateIn ws rs)) fewer),
+        bytes ∙ ap (λ (b : ℕ). sweepBytes ws 65536 0 b rs) (l .inv .0),
+      ),
     )
 
 settle-requires-2 : tie.Need-settle-requires-2 Inv-loop μ-loop
@@ -77,8 +79,8 @@ loop-again c =
           (sweep-goes-on ws rs 65536 most (l .k) (l .left) (l .q) (l .inv .1) (omega arith) m (c .before .before .before .before .due-at .ensures) (omega arith)),
     )
 
-sub-t18 : tie.Need-sub-t18 Inv-loop μ-loop
-sub-t18 c = omega (arith, c .before .before .before .loop .inv .1 .made)
+sub-made : tie.Need-sub-made Inv-loop μ-loop
+sub-made c = omega (arith, c .before .before .before .loop .inv .1 .made)
 
 returns-2 : tie.Need-returns-2 Inv-loop μ-loop
 unfolding movesUsed
@@ -90,8 +92,10 @@ returns-2 c =
     let done = sweep-ends ws rs 65536 most (l .k) (l .left) (l .q) (l .inv .1) (omega arith) in
     let enough : most ≡ l .left + remaining (stateIn ws rs) = omega (arith, done .1, remaining-sum (stateIn ws rs)) in (
       omega (arith, l .inv .0),
-      (sym (sweep-more ws rs (l .q) most (omega (arith, c .before .before .before .before .before .hold-drivers .ensures .long)) (done .0) ∙ le-ltb most (remaining (stateIn ws rs)) (omega arith)),
-      done .0 ∙ ap (λ (b : ℕ). sweepBytes ws 65536 0 b rs) (l .inv .0)),
+      (
+        sym (sweep-more ws rs (l .q) most (omega (arith, c .before .before .before .before .before .hold-drivers .ensures .long)) (done .0) ∙ le-ltb most (remaining (stateIn ws rs)) (omega arith)),
+        done .0 ∙ ap (λ (b : ℕ). sweepBytes ws 65536 0 b rs) (l .inv .0),
+      ),
     )
 
 pub sweep-spec : {M : Type 1} → statement M
@@ -109,5 +113,5 @@ sweep-spec =
     add-k
     loop-less
     loop-again
-    sub-t18
+    sub-made
     returns-2)
