@@ -8,7 +8,7 @@ use rules::Driver;
 use rules::Moved;
 ghost use mathlib.Core.Path.{_≡_};
 ghost use Prim.Native.Nat.{_+_, _*_, _<_, _≤_, min};
-ghost use mathlib.Core.Bool.{not};
+ghost use mathlib.Core.Bool.{not, _&&_};
 ghost use lib.Dec.{eqb};
 ghost use Rattle.rules.specs.Queues.{targetOf, moveAnswer, remaining, moved, due, dueAt, movesUsed, mostMoves};
 ghost use Rattle.rules.specs.State.{queues};
@@ -42,12 +42,14 @@ pub fn target(s: &[u64; WORDS], a: Apid, d: Apqi) -> Driver
     Driver::Passthrough
 }
 
-fn reserved(s: &[u64; WORDS], n: u8, m: u8) -> bool {
-    if record::apmask(s).has(n) {
-        record::aqmask(s).has(m)
-    } else {
-        false
+// Whether adapter n and domain m are both in the host's masks.
+fn reserved(s: &[u64; WORDS], n: u8, m: u8) -> bool
+    ensures { λ r. ⌜ r ≡ (hostIn (now (s .entry)) .apmask n && hostIn (now (s .entry)) .aqmask m) ⌝ }
+{
+    if !record::apmask(s).has(n) {
+        return false;
     }
+    record::aqmask(s).has(m)
 }
 
 // Moves one queue a step towards its target. It is never refused.
@@ -144,9 +146,10 @@ pub fn sweep(s: &[u64; WORDS], q: &mut [u8; 65536], budget: u32) -> Swept
     ensures more { λ r. ⌜ r .more ≡ not (eqb (remaining (stateIn (now (s .entry)) (now (q .exit)))) 0) ⌝ }
     ensures drivers { λ r. ⌜ now (q .exit) ≡ sweepBytes (now (s .entry)) queues 0 (min budget mostMoves) (now (q .entry)) ⌝ }
 {
+    record::hold_drivers(q);
     let most = if budget < 131072 { budget } else { 131072 };
     let mut left = most;
-    let mut k = 0usize;
+    let mut k: usize = 0;
     while k < 65536 {
         let n = due_at(s, q, k);
         if left < n {

@@ -21,6 +21,7 @@ pub fn create(s: &mut [u64; WORDS], i: Id) -> Answer
     if PLACES <= p {
         return Answer::Refused(Errno::Enospc);
     }
+    record::hold_words(s);
     record::put_device(s, p, true, i);
     Answer::Done
 }
@@ -28,14 +29,15 @@ pub fn create(s: &mut [u64; WORDS], i: Id) -> Answer
 pub fn remove(s: &mut [u64; WORDS], i: Id) -> Answer
     ensures { λ r. ⌜ Carried (remove i) (putDevice (now (s .entry)) (placeOf i (deviceIn (now (s .entry)))) false noId) (now (s .entry)) (now (s .exit)) r ⌝ }
 {
-    let p = lookup::find(s, i);
-    if PLACES <= p {
+    let at = lookup::find(s, i);
+    if PLACES <= at {
         return Answer::Refused(Errno::Enoent);
     }
-    if record::is_open(s, p) {
+    if record::is_open(s, at) {
         return Answer::Refused(Errno::Ebusy);
     }
-    record::put_device(s, p, false, Id { hi: 0, lo: 0 });
+    record::hold_words(s);
+    record::put_device(s, at, false, Id { hi: 0, lo: 0 });
     Answer::Done
 }
 
@@ -49,6 +51,7 @@ pub fn open(s: &mut [u64; WORDS], i: Id) -> Answer
     if record::is_open(s, p) {
         return Answer::Refused(Errno::Ebusy);
     }
+    record::hold_words(s);
     record::put_open(s, p, true);
     Answer::Done
 }
@@ -63,6 +66,7 @@ pub fn close(s: &mut [u64; WORDS], i: Id) -> Answer
     if !record::is_open(s, p) {
         return Answer::Refused(Errno::Einval);
     }
+    record::hold_words(s);
     record::put_open(s, p, false);
     Answer::Done
 }

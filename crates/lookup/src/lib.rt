@@ -1,15 +1,16 @@
 // Looking through the devices of a record: the place of an id, a free place, and whether a product is assigned.
 //
-// Rests on mask, rules and record.
+// Rests on errno, mask, rules and record.
 use mask::Mask;
 use record::PLACES;
 use record::WORDS;
 use rules::Id;
 use rules::Kind;
+ghost use mathlib.Core.Bool.{_&&_};
 ghost use mathlib.Core.Path.{_≡_};
 ghost use Rattle.mask.specs.Bits.{bits, someBelow, both};
 ghost use Rattle.rules.specs.State.{inProduct, queues};
-ghost use Rattle.rules.specs.Commands.{placeOf, freePlace, assignedElsewhere};
+ghost use Rattle.rules.specs.Commands.{sameId, placeOf, freePlace, assignedElsewhere};
 ghost use Rattle.record.specs.Layout.{deviceIn};
 
 // The place of the device with an id, or PLACES where there is none.
@@ -27,8 +28,10 @@ pub fn find(s: &[u64; WORDS], i: Id) -> usize
 }
 
 // Whether the device with an id is at place p.
-fn is_at(s: &[u64; WORDS], p: usize, i: Id) -> bool {
-    if record::present(s, p) {
+fn is_at(s: &[u64; WORDS], p: usize, i: Id) -> bool
+    ensures { λ r. ⌜ r ≡ (deviceIn (now (s .entry)) p .present && sameId i (deviceIn (now (s .entry)) p .id)) ⌝ }
+{
+    if occupied(s, p) {
         let j = record::id(s, p);
         if i.hi == j.hi {
             return i.lo == j.lo;
@@ -37,13 +40,20 @@ fn is_at(s: &[u64; WORDS], p: usize, i: Id) -> bool {
     false
 }
 
+// Whether there is a device at place p, open or not.
+fn occupied(s: &[u64; WORDS], p: usize) -> bool
+    ensures { λ r. ⌜ r ≡ deviceIn (now (s .entry)) p .present ⌝ }
+{
+    record::present(s, p)
+}
+
 // The lowest free place, or PLACES where there is none.
 pub fn free(s: &[u64; WORDS]) -> usize
     ensures { λ r. ⌜ r ≡ freePlace (deviceIn (now (s .entry))) ⌝ }
 {
     let mut p = 0usize;
     while p < PLACES {
-        if !record::present(s, p) {
+        if !occupied(s, p) {
             return p;
         }
         p += 1;
@@ -68,10 +78,12 @@ pub fn taken(s: &[u64; WORDS], p: usize, adapters: Mask, domains: Mask) -> bool
 }
 
 // Whether a queue of a product is assigned to the device at place j.
-fn shares(s: &[u64; WORDS], j: usize, adapters: Mask, domains: Mask) -> bool {
-    if record::present(s, j) {
-        if record::numbers(s, j, Kind::Adapter).meets(adapters) {
-            return record::numbers(s, j, Kind::Domain).meets(domains);
+fn shares(s: &[u64; WORDS], j: usize, adapters: Mask, domains: Mask) -> bool
+    ensures { λ r. ⌜ r ≡ (deviceIn (now (s .entry)) j .present && (someBelow 256 (both (bits adapters) (deviceIn (now (s .entry)) j .adapters)) && someBelow 256 (both (bits domains) (deviceIn (now (s .entry)) j .domains)))) ⌝ }
+{
+    if occupied(s, j) {
+        if adapters.meets(record::numbers(s, j, Kind::Adapter)) {
+            return domains.meets(record::numbers(s, j, Kind::Domain));
         }
     }
     false
