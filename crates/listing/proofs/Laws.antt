@@ -9,13 +9,21 @@ use mathlib.Core.Bool.{Bool, true, false, cond, _&&_}
 use mathlib.Core.List.{List, [], _∷_, _++_, append-nil, append-assoc}
 use lib.ListN.{length, getD, set, take, drop, length-append, length-drop, List·getD-append}
 use lib.Seq.{sets-eq, take-all, take-at, drop-at, drop-drop, getD-append-seam, append-snoc}
+use lib.Dec.{eqb, eqb·suc-zero}
 use Rattle.mask.specs.Bits.{Bits, countBelow}
 use Rattle.mask.proofs.Laws.{count-cong, count-add}
-use Rattle.rules.specs.State.{queues, inProduct}
+use Rattle.rules.specs.State.{queues, places, inProduct}
 use Rattle.rules.proofs.Products.{in-product}
 use Rattle.listing.specs.Lines.{hexDigit, lineOf, linesOf, queuesFrom, queuesAt, fitting, nextPlace}
 use Rattle.listing.specs.Written.{Written}
-use borrow.Author.Tests.{le-leb, lt-leb}
+use Rattle.listing.specs.Listed.{Listing, matrix, listErrno}
+use Rattle.listing.specs.declared.Listed.{Listed}
+use Rattle.rules.specs.declared.Id.{Id}
+use Rattle.rules.specs.declared.Matrix.{Matrix}
+use Rattle.rules.specs.Commands.{answered, placeOf}
+use Rattle.rules.specs.Queues.{matrixAdapters, matrixDomains}
+use Rattle.record.specs.Layout.{stateIn, deviceIn}
+use borrow.Author.Tests.{lt-ltb, le-ltb, le-leb, lt-leb}
 
 -- ---- how many queues
 
@@ -35,7 +43,7 @@ length-queues (suc n) k m =
     let f : Bits = λ i. m (k + i) in
     let first : countBelow 1 f ≡ cond (m k) 1 0 = zero-add (cond (m (k + 0)) 1 0) ∙ ap (λ (x : ℕ). cond (m x) 1 0) (add-zero k) in
     let rest : countBelow n (λ i. f (1 + i)) ≡ length (queuesFrom n (suc k) m) =
-        count-cong n (λ i. f (1 + i)) (λ i. m (suc k + i)) (λ i l. ap m (omega arith)) ∙ sym (length-queues n (suc k) m) in
+    count-cong n (λ i. f (1 + i)) (λ i. m (suc k + i)) (λ i l. ap m (omega arith)) ∙ sym (length-queues n (suc k) m) in
     one-more (m k) k (queuesFrom n (suc k) m) ∙ sym (ap₂ _+_ first rest) ∙ sym (count-add 1 n f) ∙ ap (λ (x : ℕ). countBelow x f) (one-add n)
 
 -- n rows of w numbers each, where row x has c of them if a has x, and none else
@@ -159,10 +167,10 @@ module _ {m : Bits} {place : ℕ} {b₀ b : List ℕ} {k at last : ℕ} (s : Sof
   sofar-line b′ h e f p =
       let before : take at b ≡ linesOf (s .done) = ap (take at) (s .text) ∙ take-at (linesOf (s .done)) (drop at b₀) at lines-size in
       let after : drop (at + 8) b ≡ drop (at + 8) b₀ =
-          sym (drop-drop 8 at b) ∙ ap (λ (l : List ℕ). drop 8 (drop at l)) (s .text) ∙ ap (drop 8) (drop-at (linesOf (s .done)) (drop at b₀) at lines-size) ∙ drop-drop 8 at b₀ in
+      sym (drop-drop 8 at b) ∙ ap (λ (l : List ℕ). drop 8 (drop at l)) (s .text) ∙ ap (drop 8) (drop-at (linesOf (s .done)) (drop at b₀) at lines-size) ∙ drop-drop 8 at b₀ in
       let more : length (s .done ++ (k ∷ [])) ≡ length (s .done) + 1 = length-append (s .done) (k ∷ []) in
       let text′ : b′ ≡ linesOf (s .done ++ (k ∷ [])) ++ drop (at + 8) b₀ =
-          p ∙ ap₂ (λ (u v : List ℕ). u ++ lineOf k ++ v) before after ∙ ap (λ (l : List ℕ). l ++ drop (at + 8) b₀) (sym (lines-snoc (s .done) k)) in
+      p ∙ ap₂ (λ (u v : List ℕ). u ++ lineOf k ++ v) before after ∙ ap (λ (l : List ℕ). l ++ drop (at + 8) b₀) (sym (lines-snoc (s .done) k)) in
       record {
         done = s .done ++ (k ∷ []);
         all = s .all ∙ ap (λ (l : List ℕ). s .done ++ l) (from-here k m h ∙ rw e) ∙ sym (append-snoc (s .done) k (queuesFrom (queues - (k + 1)) (k + 1) m));
@@ -194,8 +202,8 @@ module _ {m : Bits} {place : ℕ} {b₀ b : List ℕ} {k at last : ℕ} (s : Sof
       let many : length (queuesAt place m) ≡ length (s .done) + length (k ∷ rest) = ap length all ∙ length-append (s .done) (k ∷ rest) in
       let beyond : length b₀ / 8 < length (queuesAt place m) = omega (arith, count, many) in
       let ended : getD (queuesAt place m) (length b₀ / 8 - 1) 0 ≡ last =
-          ap₂ (λ (l : List ℕ) (n : ℕ). getD l (n - 1) 0) all count ∙ List·getD-append (s .done) (k ∷ rest) 0 (length (s .done) - 1) (omega (arith, s .size, s .long, s .fits))
-          ∙ sym (s .lastly (omega (arith, s .long))) in
+      ap₂ (λ (l : List ℕ) (n : ℕ). getD l (n - 1) 0) all count ∙ List·getD-append (s .done) (k ∷ rest) 0 (length (s .done) - 1) (omega (arith, s .size, s .long, s .fits))
+      ∙ sym (s .lastly (omega (arith, s .long))) in
       written (last + 1)
       (ap (take (length b₀ / 8)) all ∙ take-at (s .done) (k ∷ rest) (length b₀ / 8) (sym count))
       (rw (lt-leb (length (queuesAt place m)) (length b₀ / 8) beyond) (ap (λ (n : ℕ). n + 1) (sym ended)))
@@ -209,3 +217,36 @@ module _ {m : Bits} {place : ℕ} {b₀ b : List ℕ} {k at last : ℕ} (s : Sof
       written queues
       (ap (take (length b₀ / 8)) all ∙ take-all (length b₀ / 8) (s .done) count)
       (rw (le-leb (length (queuesAt place m)) (length b₀ / 8) (omega (arith, ap length all))))
+
+-- ---- a whole call
+
+pub errno-absent : (ws : List ℕ) (i : Id) (n : ℕ) → places ≤ placeOf i (deviceIn ws) → listErrno ws i n ≡ 2
+unfolding listErrno
+errno-absent ws i n h = rw (le-ltb (placeOf i (deviceIn ws)) places h)
+
+pub errno-short : (ws : List ℕ) (i : Id) (n : ℕ) → placeOf i (deviceIn ws) < places → n < 8 → listErrno ws i n ≡ 28
+unfolding listErrno
+errno-short ws i n h l = rw (lt-ltb (placeOf i (deviceIn ws)) places h, lt-ltb n 8 l)
+
+pub errno-none : (ws : List ℕ) (i : Id) (n : ℕ) → placeOf i (deviceIn ws) < places → 8 ≤ n → listErrno ws i n ≡ 0
+unfolding listErrno
+errno-none ws i n h l = rw (lt-ltb (placeOf i (deviceIn ws)) places h, le-ltb n 8 l)
+
+pub matrix-at : (ws qs : List ℕ) (i : Id) (w : Matrix) {a d : Bits} {p : ℕ} → p ≡ placeOf i (deviceIn ws)
+    → a ≡ matrixAdapters w (stateIn ws qs) (deviceIn ws p) → d ≡ matrixDomains w (stateIn ws qs) (deviceIn ws p) → inProduct a d ≡ matrix ws qs i w
+unfolding matrix
+matrix-at ws qs i w e a d =
+    ap₂ inProduct (a ∙ ap (λ (n : ℕ). matrixAdapters w (stateIn ws qs) (deviceIn ws n)) e) (d ∙ ap (λ (n : ℕ). matrixDomains w (stateIn ws qs) (deviceIn ws n)) e)
+
+module _ {ws qs : List ℕ} {i : Id} {w : Matrix} {place : ℕ} {before : List ℕ} (r : Listed) where
+  pub refused-listing : (e : ℕ) → answered (r .answer) ≡ suc e → listErrno ws i (length before) ≡ suc e → r .written ≡ 0 → r .next ≡ place
+      → Listing ws qs i w place before before r
+  refused-listing e a l p q =
+      let wrong : eqb (answered (r .answer)) 0 ≡ false = ap (λ (n : ℕ). eqb n 0) a ∙ eqb·suc-zero e in
+      record { answer = a ∙ sym l; text = rw wrong; written = rw wrong p; next = rw wrong q }
+
+  pub written-listing : {after : List ℕ} (m : Bits) → answered (r .answer) ≡ 0 → listErrno ws i (length before) ≡ 0 → m ≡ matrix ws qs i w
+      → Written m place before after (r .written) (r .next) → Listing ws qs i w place before after r
+  written-listing m a l e f =
+      let right : eqb (answered (r .answer)) 0 ≡ true = ap (λ (n : ℕ). eqb n 0) a in
+      record { answer = a ∙ sym l; text = rw (right, ← e) (f .text); written = rw (right, ← e) (f .size); next = rw (right, ← e) (f .onward) }

@@ -11,18 +11,15 @@ use rules::Masks;
 use rules::Matrix;
 ghost use Prim.Native.Nat.{_+_, _≤_, _<_};
 ghost use mathlib.Core.Path.{_≡_};
-ghost use mathlib.Core.Bool.{cond};
-ghost use mathlib.Core.List.{List, _++_};
+ghost use mathlib.Core.List.{_++_};
 ghost use lib.ListN.{length, take, drop};
-ghost use lib.Dec.{ltb, eqb};
+ghost use Rattle.errno.specs.Errno.{numberOf};
 ghost use Rattle.mask.specs.Bits.{bits};
-ghost use Rattle.rules.specs.State.{inProduct, places, queues};
-ghost use Rattle.rules.specs.Queues.{matrixAdapters, matrixDomains};
-ghost use Rattle.rules.specs.Commands.{answered, placeOf};
-ghost use Rattle.record.specs.Layout.{stateIn, deviceIn};
-ghost use Rattle.listing.specs.Lines.{hexDigit, lineOf, linesOf, fitting, nextPlace, queuesAt};
+ghost use Rattle.rules.specs.State.{inProduct, queues};
+ghost use Rattle.rules.specs.Commands.{answered};
+ghost use Rattle.listing.specs.Lines.{hexDigit, lineOf, queuesAt};
 ghost use Rattle.listing.specs.Written.{Written};
-ghost use Rattle.listing.specs.Listed.{Listing, matrix};
+ghost use Rattle.listing.specs.Listed.{Listing};
 
 // What a listing answers: bytes written and the next place. A refused one wrote nothing and stays at its place.
 pub struct Listed {
@@ -64,7 +61,9 @@ pub fn lines(m: Masks) -> u32
     adapters.count() * domains.count()
 }
 
-fn refused(e: Errno, place: usize) -> Listed {
+fn refused(e: Errno, place: usize) -> Listed
+    ensures { λ r. ⌜ (answered (r .answer) ≡ numberOf e) × (r .written ≡ 0) × (r .next ≡ place) ⌝ }
+{
     Listed {
         answer: Answer::Refused(e),
         written: 0,
@@ -76,9 +75,7 @@ fn refused(e: Errno, place: usize) -> Listed {
 fn write(adapters: Mask, domains: Mask, place: usize, buf: &mut [u8]) -> Listed
     requires { ⌜ 8 ≤ length (now buf) ⌝ }
     ensures answer { λ r. ⌜ answered (r .answer) ≡ 0 ⌝ }
-    ensures lines {
-        λ r. ⌜ Written (inProduct (bits adapters) (bits domains)) place (now (buf .entry)) (now (buf .exit)) (r .written) (r .next) ⌝
-    }
+    ensures lines { λ r. ⌜ Written (inProduct (bits adapters) (bits domains)) place (now (buf .entry)) (now (buf .exit)) (r .written) (r .next) ⌝ }
 {
     let mut k = place;
     let mut at = 0usize;

@@ -18,14 +18,14 @@ count-requires-2 : tie.Need-count-requires-2
 count-requires-2 c κs = search needs
 
 mul-result : tie.Need-mul-result
-mul-result c = 
+mul-result c =
     let a = c .before .before .before .before .args .m in
     let adapters : c .before .count .result ≤ 256 = omega (arith, c .before .count .ensures, count-le 256 (bits (a .adapters))) in
     let domains : c .count2 .result ≤ 256 = omega (arith, c .count2 .ensures, count-le 256 (bits (a .domains))) in
     omega (arith, mul-le-mul adapters domains)
 
 returns : tie.Need-returns
-returns c = 
+returns c =
     let a = c .before .before .before .before .args .m in
     ap₂ _*_ (c .before .count .ensures) (c .count2 .ensures) ∙ sym (matrix-lines (bits (a .adapters)) (bits (a .domains)))
 

@@ -75,7 +75,7 @@ same-length : tie.Need-same-length
 same-length c = simp length-set
 
 returns : tie.Need-returns
-returns c = 
+returns c =
     let a = c .before .before .before .before .before .args in
     line-stores (now (a .buf)) (a .at) (a .k) _ _ _ _ (omega arith) (omega arith)
     (c .before .before .before .hex-digit .ensures) (c .before .before .hex-digit2 .ensures) (c .before .hex-digit3 .ensures) (c .hex-digit4 .ensures)

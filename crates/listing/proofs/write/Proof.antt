@@ -50,7 +50,7 @@ loop-less : tie.Need-loop-less Inv-loop μ-loop
 loop-less c = search needs
 
 loop-again : tie.Need-loop-again Inv-loop μ-loop
-loop-again c = 
+loop-again c =
     let l = c .before .before .before .loop in
     ⊎-elim
     (λ w. sofar-as (w .6) (w .7) (w .8) (sofar-line (l .inv) _ (omega arith) (sym (c .before .in-product .ensures) ∙ w .0 .taken) (omega arith) (w .3 .ensures)))
