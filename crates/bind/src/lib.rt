@@ -8,7 +8,7 @@ use rules::Driver;
 use rules::Moved;
 ghost use mathlib.Core.Path.{_≡_};
 ghost use Prim.Native.Nat.{_+_, _*_, _<_, _≤_, min};
-ghost use mathlib.Core.Bool.{not};
+ghost use mathlib.Core.Bool.{not, _&&_};
 ghost use lib.Dec.{eqb};
 ghost use Rattle.rules.specs.Queues.{targetOf, moveAnswer, remaining, moved, due, dueAt, movesUsed, mostMoves};
 ghost use Rattle.rules.specs.State.{queues};
@@ -42,12 +42,14 @@ pub fn target(s: &[u64; WORDS], a: Apid, d: Apqi) -> Driver
     Driver::Passthrough
 }
 
-fn reserved(s: &[u64; WORDS], n: u8, m: u8) -> bool {
-    if record::apmask(s).has(n) {
-        record::aqmask(s).has(m)
-    } else {
-        false
+// Whether adapter n and domain m are both in the host's masks.
+fn reserved(s: &[u64; WORDS], n: u8, m: u8) -> bool
+    ensures { λ r. ⌜ r ≡ (hostIn (now (s .entry)) .apmask n && hostIn (now (s .entry)) .aqmask m) ⌝ }
+{
+    if !record::apmask(s).has(n) {
+        return false;
     }
+    record::aqmask(s).has(m)
 }
 
 // Moves one queue a step towards its target. It is never refused.
@@ -144,9 +146,10 @@ pub fn sweep(s: &[u64; WORDS], q: &mut [u8; 65536], budget: u32) -> Swept
     ensures more { λ r. ⌜ r .more ≡ not (eqb (remaining (stateIn (now (s .entry)) (now (q .exit)))) 0) ⌝ }
     ensures drivers { λ r. ⌜ now (q .exit) ≡ sweepBytes (now (s .entry)) queues 0 (min budget mostMoves) (now (q .entry)) ⌝ }
 {
+    record::hold_drivers(q);
     let most = if budget < 131072 { budget } else { 131072 };
     let mut left = most;
-    let mut k = 0usize;
+    let mut k: usize = 0;
     while k < 65536 {
         let n = due_at(s, q, k);
         if left < n {
@@ -160,8 +163,9 @@ pub fn sweep(s: &[u64; WORDS], q: &mut [u8; 65536], budget: u32) -> Swept
         left = left - n;
         k += 1;
     }
+    let made = most - left;
     Swept {
-        used: most - left,
+        used: made,
         more: false,
     }
 }
@@ -171,14 +175,14 @@ fn settle(s: &[u64; WORDS], q: &mut [u8; 65536], k: usize, n: u32)
     requires { ⌜ (k < 65536) × (n ≤ 2) ⌝ }
     ensures { λ r. ⌜ now (q .exit) ≡ movesBytes (now (s .entry)) n k (now (q .entry)) ⌝ }
 {
-    let a = Apid((k / 256 % 256) as u8);
-    let d = Apqi((k % 256) as u8);
+    let adapter = Apid((k / 256 % 256) as u8);
+    let domain = Apqi((k % 256) as u8);
     if n == 0 {
         return;
     }
-    move_queue(s, q, a, d);
+    move_queue(s, q, adapter, domain);
     if n == 1 {
         return;
     }
-    move_queue(s, q, a, d);
+    move_queue(s, q, adapter, domain);
 }

@@ -124,16 +124,13 @@ other-way s false x y u v p q = q
 
 -- a check of the model on the id's place, in the service's words
 module _ (i : Id) (s : State) where
-  p : ℕ
+  abbrev p : ℕ
   p = placeOf i (s .device)
-
-  v : Device
-  v = s .device p
 
   -- a command for a device
   on-device : (next : ℕ → Outcome State) (u : ℕ → Reply) → Agrees s (next p) (u p)
       → Agrees s (onDevice i s next) (cond (not (known i (erase s))) (record { errno = 2; next = erase s }) (u (place i (erase s))))
-  unfolding onDevice p
+  unfolding onDevice
   on-device next u h =
       subst (λ (b : Bool). Agrees s (cond (ltb p places) (next p) (refused 2)) (cond (not b) (record { errno = 2; next = erase s }) (u (place i (erase s)))))
       (sym (known-same i s))
@@ -199,7 +196,7 @@ created i s =
         (refuses s 28)))
 
 removed : (i : Id) (s : State) → Agrees s (Commands.remove i s) (reply (remove i) (erase s))
-unfolding Commands.remove reply judged its
+unfolding Commands.remove reply judged its erase
 removed i s = on-device i s (λ x. cond (s .device x .isOpen) (refused 16) (granted (withDevice x noDevice s))) u (at (placeOf i (s .device)))
   where
     done : ℕ → Reply
@@ -298,12 +295,271 @@ turn-as o Adapter n w b e = ap (λ (x : Bits). withNumbers Adapter x w) e
 turn-as o Domain n w b e = ap (λ (x : Bits). withNumbers Domain x w) e
 turn-as o Control n w b e = ap (λ (x : Bits). withNumbers Control x w) e
 
+-- the effect of assigning or unassigning a number
+turned-same : (o : Bool) (k : Kind) (n x : ℕ) (b : Bits) (s : State) → turned o n (numbersOf k (s .device x)) ≡ b
+    → put x (turn o k n (s .device x)) (erase s) ≡ erase (withDevice x (withNumbers k b (s .device x)) s)
+turned-same o k n x b s e = put-same x (turn o k n (s .device x)) (withNumbers k b (s .device x)) s (turn-as o k n (s .device x) b e)
+
 unassigned : (k : Kind) (i : Id) (text : List ℕ) (s : State) → Agrees s (Commands.unassign k i text s) (reply (unassign k i text) (erase s))
 unfolding Commands.unassign reply judged its erase
-unassigned k i text s =
-    with-text s (numberText text) _ _
-    (λ n. on-device i s
-    (λ x. cond (leb n (limitOf k (s .limits))) (granted (withDevice x (withNumbers k (excluded n (numbersOf k (s .device x))) (s .device x)) s)) (refused 19))
-    (λ x. cond (ltb (highest k (erase s)) n) (record { errno = 19; next = erase s }) (record { errno = 0; next = put x (turn false k n (s .device x)) (erase s) }))
-    (within k n s _ _
-    (grants s _ _ (put-same (placeOf i (s .device)) _ _ s (turn-as false k n (s .device (placeOf i (s .device))) _ (turned-off n (numbersOf k (s .device (placeOf i (s .device))))))))))
+unassigned k i text s = with-text s (numberText text) (λ n. onDevice i s (next n)) _ (λ n. on-device i s (next n) (u n) (at n (placeOf i (s .device))))
+  where
+    t : ℕ → ℕ → State
+    t n x = withDevice x (withNumbers k (excluded n (numbersOf k (s .device x))) (s .device x)) s
+
+    next : ℕ → ℕ → Outcome State
+    next n x = cond (leb n (limitOf k (s .limits))) (granted (t n x)) (refused 19)
+
+    done : ℕ → ℕ → Reply
+    done n x = record { errno = 0; next = put x (turn false k n (erase s .device x)) (erase s) }
+
+    u : ℕ → ℕ → Reply
+    u n x = cond (ltb (highest k (erase s)) n) (record { errno = 19; next = erase s }) (done n x)
+
+    at : (n x : ℕ) → Agrees s (next n x) (u n x)
+    at n x =
+        within k n s (granted (t n x)) (done n x)
+        (grants s (t n x) (put x (turn false k n (s .device x)) (erase s))
+        (turned-same false k n x (excluded n (numbersOf k (s .device x))) s (turned-off n (numbersOf k (s .device x)))))
+
+-- ---- assigning
+
+-- the pairs that a number not yet assigned adds, as queues
+new-paired : (k : Kind) (n : ℕ) (w : Device) (q : ℕ) → numbersOf k w n ≡ false → paired k n w q ≡ new k n w (q / 256) (q % 256)
+unfolding paired new inProduct single numbersOf noBits
+new-paired Adapter n w q e = ap (λ (b : Bool). not b && (eqb (q / 256) n && w .domains (q % 256))) (sym e)
+new-paired Domain n w q e = ap (λ (b : Bool). not b && (w .adapters (q / 256) && eqb (q % 256) n)) (sym e)
+new-paired Control n w q e = refl
+
+-- a number that is assigned adds none
+new-none : (k : Kind) (n : ℕ) (w : Device) (a d : ℕ) → numbersOf k w n ≡ true → new k n w a d ≡ false
+unfolding new numbersOf
+new-none Adapter n w a d e = ap (λ (b : Bool). not b && (eqb a n && w .domains d)) e
+new-none Domain n w a d e = ap (λ (b : Bool). not b && (w .adapters a && eqb d n)) e
+new-none Control n w a d e = refl
+
+-- a pair that is nowhere
+no-pair : (f : ℕ → ℕ → Bool) → ((a d : ℕ) → f a d ≡ false) → somePair f ≡ false
+unfolding somePair
+no-pair f e = none-some 256 (λ a. someBelow 256 (λ d. f a d)) (λ a h. none-some 256 (λ d. f a d) (λ d l. e a d))
+
+-- bit n is set already
+set-already : (n : ℕ) (b : Bits) → b n ≡ true → turned true n b ≡ b
+unfolding turned
+set-already n b e = fun-ext (λ i. go i (eqb i n) refl)
+  where
+    go : (i : ℕ) (x : Bool) → eqb i n ≡ x → cond x true (b i) ≡ b i
+    go i true h = sym (ap b (eqb-true i n h) ∙ e)
+    go i false h = refl
+
+same-numbers : (k : Kind) (w : Device) → withNumbers k (numbersOf k w) w ≡ w
+unfolding withNumbers numbersOf
+same-numbers Adapter w = refl
+same-numbers Domain w = refl
+same-numbers Control w = refl
+
+-- a device put where it is
+put-back : (x : ℕ) (w : Device) (s : State) → w ≡ s .device x → put x w (erase s) ≡ erase s
+unfolding put erase
+put-back x w s e =
+    ap {B = Model} (λ (f : ℕ → Device). record {
+      highestAdapter = s .limits .adapter;
+      highestDomain = s .limits .domain;
+      apmask = s .host .apmask;
+      aqmask = s .host .aqmask;
+      adapters = s .config .adapters;
+      domains = s .config .domains;
+      controls = s .config .controls;
+      types = s .config .types;
+      device = f;
+    }) (fun-ext (λ j. go j (eqb j x) refl))
+  where
+    go : (j : ℕ) (b : Bool) → eqb j x ≡ b → cond b w (s .device j) ≡ s .device j
+    go j true h = e ∙ ap (s .device) (sym (eqb-true j x h))
+    go j false h = refl
+
+module _ (k : Kind) (n x : ℕ) (s : State) where
+  hit99 : Bool
+  hit99 = somePair (λ a d. new k n (s .device x) a d && reserved (erase s) a d)
+
+  hit98 : Bool
+  hit98 = somePair (λ a d. new k n (s .device x) a d && anotherHolds (erase s) x a d)
+
+  done : Reply
+  done = record { errno = 0; next = put x (turn true k n (s .device x)) (erase s) }
+
+  checked : Reply
+  checked = cond hit99 (record { errno = 99; next = erase s }) (cond hit98 (record { errno = 98; next = erase s }) done)
+
+  same99 : numbersOf k (s .device x) n ≡ false → someBelow queues (both (paired k n (s .device x)) (Queues.reserved (s .host))) ≡ hit99
+  unfolding hit99 both Queues.reserved inProduct reserved erase
+  same99 e =
+      some-cong queues (λ q. paired k n (s .device x) q && (s .host .apmask (q / 256) && s .host .aqmask (q % 256)))
+      (λ q. new k n (s .device x) (q / 256) (q % 256) && (s .host .apmask (q / 256) && s .host .aqmask (q % 256)))
+      (λ q h. ap (λ (b : Bool). b && (s .host .apmask (q / 256) && s .host .aqmask (q % 256))) (new-paired k n (s .device x) q e))
+      ∙ some-pair (λ a d. new k n (s .device x) a d && (s .host .apmask a && s .host .aqmask d))
+
+  same98 : numbersOf k (s .device x) n ≡ false → someBelow queues (both (paired k n (s .device x)) (assignedElsewhere x (s .device))) ≡ hit98
+  unfolding hit98 both assignedElsewhere product inProduct anotherHolds holds erase
+  same98 e =
+      some-cong queues (λ q. paired k n (s .device x) q && elsewhere (q / 256) (q % 256))
+      (λ q. new k n (s .device x) (q / 256) (q % 256) && elsewhere (q / 256) (q % 256))
+      (λ q h. ap (λ (b : Bool). b && elsewhere (q / 256) (q % 256)) (new-paired k n (s .device x) q e))
+      ∙ some-pair (λ a d. new k n (s .device x) a d && elsewhere a d)
+    where
+      elsewhere : ℕ → ℕ → Bool
+      elsewhere a d = someBelow places (λ j. not (eqb j x) && (s .device j .present && (s .device j .adapters a && s .device j .domains d)))
+
+  at-place : (b : Bool) → numbersOf k (s .device x) n ≡ b
+      → Agrees s
+      (cond b (granted s) (adding (paired k n (s .device x)) x s (withDevice x (withNumbers k (included n (numbersOf k (s .device x))) (s .device x)) s)))
+      checked
+  unfolding checked done adding hit99 hit98
+  at-place true e =
+      let a : hit99 ≡ false = no-pair (λ a d. new k n (s .device x) a d && reserved (erase s) a d) (λ a d. ap (λ (b : Bool). b && reserved (erase s) a d) (new-none k n (s .device x) a d e)) in
+      let b : hit98 ≡ false = no-pair (λ a d. new k n (s .device x) a d && anotherHolds (erase s) x a d) (λ a d. ap (λ (b : Bool). b && anotherHolds (erase s) x a d) (new-none k n (s .device x) a d e)) in
+      subst (λ (c : Bool). Agrees s (granted s) (cond c (record { errno = 99; next = erase s }) (cond hit98 (record { errno = 98; next = erase s }) done))) (sym a)
+      (subst (λ (c : Bool). Agrees s (granted s) (cond c (record { errno = 98; next = erase s }) done)) (sym b)
+      (grants s s (put x (turn true k n (s .device x)) (erase s))
+      (put-back x (turn true k n (s .device x)) s
+      (turn-as true k n (s .device x) (numbersOf k (s .device x)) (set-already n (numbersOf k (s .device x)) e) ∙ same-numbers k (s .device x)))))
+  at-place false e =
+      let t = withDevice x (withNumbers k (included n (numbersOf k (s .device x))) (s .device x)) s in
+      subst (λ (c : Bool). Agrees s (cond c (refused 99) (cond (someBelow queues (both (paired k n (s .device x)) (assignedElsewhere x (s .device)))) (refused 98) (granted t))) checked)
+      (sym (same99 e))
+      (same-way s hit99 (refused 99) (cond (someBelow queues (both (paired k n (s .device x)) (assignedElsewhere x (s .device)))) (refused 98) (granted t))
+      (record { errno = 99; next = erase s }) (cond hit98 (record { errno = 98; next = erase s }) done) (refuses s 99)
+      (subst (λ (c : Bool). Agrees s (cond c (refused 98) (granted t)) (cond hit98 (record { errno = 98; next = erase s }) done)) (sym (same98 e))
+      (same-way s hit98 (refused 98) (granted t) (record { errno = 98; next = erase s }) done (refuses s 98)
+      (grants s t (put x (turn true k n (s .device x)) (erase s))
+      (turned-same true k n x (included n (numbersOf k (s .device x))) s (turned-on n (numbersOf k (s .device x))))))))
+
+assigned-same : (k : Kind) (i : Id) (text : List ℕ) (s : State) → Agrees s (Commands.assign k i text s) (reply (assign k i text) (erase s))
+unfolding Commands.assign assignAt reply judged its erase checked done hit99 hit98
+assigned-same k i text s = with-text s (numberText text) (λ n. onDevice i s (next n)) _ (λ n. on-device i s (next n) (u n) (at n (placeOf i (s .device))))
+  where
+    next : ℕ → ℕ → Outcome State
+    next n x = cond (leb n (limitOf k (s .limits))) (assignAt k n x s) (refused 19)
+
+    u : ℕ → ℕ → Reply
+    u n x = cond (ltb (highest k (erase s)) n) (record { errno = 19; next = erase s }) (checked k n x s)
+
+    at : (n x : ℕ) → Agrees s (next n x) (u n x)
+    at n x = within k n s (assignAt k n x s) (checked k n x s) (at-place k n x s (numbersOf k (s .device x) n) refl)
+
+-- ---- the host's masks and the configuration
+
+masked-same : (ap aq : Bits) (s : State)
+    → Agrees s (setHost (record { apmask = ap; aqmask = aq }) s)
+    (cond (somePair (λ a d. (ap a && aq d) && someHolds (erase s) a d)) (record { errno = 98; next = erase s }) (record { errno = 0; next = masked ap aq (erase s) }))
+unfolding setHost both Queues.reserved inProduct assigned product someHolds holds erase masked withHost
+masked-same ap aq s =
+    subst (λ (b : Bool). Agrees s (cond b (refused 98) (granted (withHost (record { apmask = ap; aqmask = aq }) s)))
+    (cond (somePair (λ a d. (ap a && aq d) && someHolds (erase s) a d)) (record { errno = 98; next = erase s }) (record { errno = 0; next = masked ap aq (erase s) })))
+    (sym (some-pair (λ a d. (ap a && aq d) && someHolds (erase s) a d)))
+    (same-way s (somePair (λ a d. (ap a && aq d) && someHolds (erase s) a d)) (refused 98) (granted (withHost (record { apmask = ap; aqmask = aq }) s))
+    (record { errno = 98; next = erase s }) (record { errno = 0; next = masked ap aq (erase s) }) (refuses s 98)
+    (grants s (withHost (record { apmask = ap; aqmask = aq }) s) (masked ap aq (erase s)) refl))
+
+apmask-same : (text : List ℕ) (s : State) → Agrees s (Commands.setApmask text s) (reply (setApmask text) (erase s))
+unfolding Commands.setApmask reply judged erase
+apmask-same text s =
+    with-text s (maskText text (s .host .apmask)) (λ b. setHost (record { apmask = b; aqmask = s .host .aqmask }) s) _ (λ b. masked-same b (s .host .aqmask) s)
+
+aqmask-same : (text : List ℕ) (s : State) → Agrees s (Commands.setAqmask text s) (reply (setAqmask text) (erase s))
+unfolding Commands.setAqmask reply judged erase
+aqmask-same text s =
+    with-text s (maskText text (s .host .aqmask)) (λ b. setHost (record { apmask = s .host .apmask; aqmask = b }) s) _ (λ b. masked-same (s .host .apmask) b s)
+
+above-same : (limit : ℕ) (b : Bits) → someBelow 256 (both b (bitsAbove limit)) ≡ bitAbove limit b
+unfolding both bitsAbove bitAbove
+above-same limit b =
+    some-cong 256 (λ i. b i && (ltb limit i && ltb i 256)) (λ i. b i && ltb limit i)
+    (λ i h. ap (λ (x : Bool). b i && (ltb limit i && x)) (lt-ltb i 256 h) ∙ ap (λ (x : Bool). b i && x) (mathlib.Core.Bool.and-true (ltb limit i)))
+
+three-ways : (s : State) (x y z : Bool) (g : Outcome State) (u d : Reply) → Agrees s (refused 19) u → Agrees s g d
+    → Agrees s (cond (x || y || z) (refused 19) g) (cond x u (cond y u (cond z u d)))
+three-ways s true y z g u d p q = p
+three-ways s false true z g u d p q = p
+three-ways s false false true g u d p q = p
+three-ways s false false false g u d p q = q
+
+given-same : (c : Configuration) (s : State) → given c (erase s) ≡ erase (withConfig (stored c) s)
+unfolding given erase withConfig stored
+given-same c s = refl
+
+configured-same : (c : Configuration) (s : State) → Agrees s (Commands.configure c s) (reply (configure c) (erase s))
+unfolding Commands.configure reply judged beyondLimits erase
+configured-same c s =
+    subst (λ (b : Bool). Agrees s (cond (b || y || z) (refused 19) g) (cond (bitAbove (s .limits .adapter) (bits (c .adapters))) u (cond y′ u (cond z′ u d))))
+    (sym (above-same (s .limits .adapter) (bits (c .adapters))))
+    (subst (λ (b : Bool). Agrees s (cond (x′ || b || z) (refused 19) g) (cond x′ u (cond y′ u (cond z′ u d)))) (sym (above-same (s .limits .domain) (bits (c .domains))))
+    (subst (λ (b : Bool). Agrees s (cond (x′ || y′ || b) (refused 19) g) (cond x′ u (cond y′ u (cond z′ u d)))) (sym (above-same (s .limits .domain) (bits (c .controls))))
+    (three-ways s x′ y′ z′ g u d (refuses s 19) last)))
+  where
+    x′ : Bool
+    x′ = bitAbove (s .limits .adapter) (bits (c .adapters))
+
+    y′ : Bool
+    y′ = bitAbove (s .limits .domain) (bits (c .domains))
+
+    z′ : Bool
+    z′ = bitAbove (s .limits .domain) (bits (c .controls))
+
+    y : Bool
+    y = someBelow 256 (both (bits (c .domains)) (bitsAbove (s .limits .domain)))
+
+    z : Bool
+    z = someBelow 256 (both (bits (c .controls)) (bitsAbove (s .limits .domain)))
+
+    g : Outcome State
+    g = granted (withConfig (stored c) s)
+
+    u : Reply
+    u = record { errno = 19; next = erase s }
+
+    d : Reply
+    d = record { errno = 0; next = given c (erase s) }
+
+    last : Agrees s g d
+    last = grants s (withConfig (stored c) s) (given c (erase s)) (given-same c s)
+
+-- ---- every command, and every list
+
+pub agree : (c : Command) (s : State) → Agrees s (rule c s) (reply c (erase s))
+unfolding rule
+agree (create i) s = created i s
+agree (remove i) s = removed i s
+agree (openIt i) s = opened i s
+agree (closeIt i) s = closed i s
+agree (assign k i text) s = assigned-same k i text s
+agree (unassign k i text) s = unassigned k i text s
+agree (setApmask text) s = apmask-same text s
+agree (setAqmask text) s = aqmask-same text s
+agree (configure c) s = configured-same c s
+
+-- a move changes nothing that the model keeps
+pub erase-move : (q : ℕ) (s : State) → erase (Queues.move q s) ≡ erase s
+unfolding erase Queues.move
+erase-move q s = refl
+
+-- the answers to the commands of a list are the model's
+pub all-answers : (steps : List Step) (s : State) → answers steps s ≡ replies (commandsOf steps) (erase s)
+unfolding answers replies commandsOf
+all-answers [] s = refl
+all-answers (command c ∷ steps) s =
+    ap₂ (λ (e : ℕ) (es : List ℕ). e ∷ es) (sym (agree c s .errno))
+    (all-answers steps (stateAfter s (rule c s)) ∙ ap (replies (commandsOf steps)) (sym (agree c s .next)))
+all-answers (move a d ∷ steps) s = all-answers steps (Queues.move (queueOf a d) s) ∙ ap (replies (commandsOf steps)) (erase-move (queueOf a d) s)
+
+-- what the model keeps is the state without its drivers
+pub all-kept : (steps : List Step) (s : State) → kept (commandsOf steps) (erase s) ≡ erase (afterAll steps s)
+unfolding kept commandsOf afterAll after
+all-kept [] s = refl
+all-kept (command c ∷ steps) s = ap (kept (commandsOf steps)) (agree c s .next) ∙ all-kept steps (stateAfter s (rule c s))
+all-kept (move a d ∷ steps) s = ap (kept (commandsOf steps)) (sym (erase-move (queueOf a d) s)) ∙ all-kept steps (Queues.move (queueOf a d) s)
+
+-- at first the model keeps what the fresh state does
+pub erase-fresh : (l : Limits) → erase (fresh l) ≡ start (l .adapter) (l .domain)
+unfolding erase fresh start bare nobody noDevice allBits noBits
+erase-fresh l = refl

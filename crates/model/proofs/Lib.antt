@@ -2,3 +2,4 @@ pub mod Agreement
 pub mod Exclusion
 pub mod Settling
 pub mod Demand
+pub mod Sweeping

@@ -1,3 +1,4 @@
 pub mod Steps
 pub mod Model
 pub mod Demand3
+pub mod Sweeps

@@ -26,7 +26,7 @@ use Rattle.rules.specs.declared.Driver.{Driver}
 use Rattle.rules.specs.declared.Driver.the-variants.{Unbound, Host, Passthrough}
 use Rattle.rules.specs.declared.Id.{Id}
 use Rattle.rules.specs.declared.Configuration.{Configuration}
-use Rattle.rules.specs.State.{Device, State, places, queues, noDevice, fresh}
+use Rattle.rules.specs.State.{HostMasks, Device, State, places, queues, noDevice, fresh}
 use Rattle.rules.specs.Queues.{rebound}
 use Rattle.rules.specs.Commands.{numbersOf, withDevice, withHost, withNumbers, withOpen, newDevice, withConfig, stored, answered, errnoOf, stateAfter}
 use Rattle.record.specs.Layout.{four, maskAt, flag, driverOf, byteOf, limitsIn, hostIn, configIn, deviceIn, stateIn, wordsOf, putFour, putNumbers, putOpen, putDevice, putTypes, putConfig, freshWords, unbind, apmaskAt, aqmaskAt, configAt, typesAt, deviceAt, kindAt, noId, zeros, ones}
@@ -167,58 +167,6 @@ off-set ws k v = record { at = λ j h. getD-set-other ws k j v 0 (go j h) }
     go j (inl h) = omega arith
     go j (inr h) = omega arith
 
-module _ {a n : ℕ} {ws vs : List ℕ} (o : Off a n ws vs) where
-  four-off : (k : ℕ) → (k + 4 ≤ a) ⊎ (a + n ≤ k) → four vs k ≡ four ws k
-  four-off k (inl h) = four-path (o .at k (inl (omega arith))) (o .at (k + 1) (inl (omega arith))) (o .at (k + 2) (inl (omega arith))) (o .at (k + 3) (inl (omega arith)))
-  four-off k (inr h) = four-path (o .at k (inr (omega arith))) (o .at (k + 1) (inr (omega arith))) (o .at (k + 2) (inr (omega arith))) (o .at (k + 3) (inr (omega arith)))
-
-  mask-off : (k : ℕ) → (k + 4 ≤ a) ⊎ (a + n ≤ k) → maskAt vs k ≡ maskAt ws k
-  unfolding maskAt
-  mask-off k h = ap (bitAt 64) (four-off k h)
-
-  limits-off : 2 ≤ a → limitsIn vs ≡ limitsIn ws
-  unfolding limitsIn
-  limits-off h =
-      let p = o .at 0 (inl (omega arith)) in
-      let q = o .at 1 (inl (omega arith)) in
-      λ i. record { adapter = min (p i) 255; domain = min (q i) 255 }
-
-  host-off : 10 ≤ a → hostIn vs ≡ hostIn ws
-  unfolding hostIn
-  host-off h =
-      let p = mask-off 2 (inl (omega arith)) in
-      let q = mask-off 6 (inl (omega arith)) in
-      λ i. record { apmask = p i; aqmask = q i }
-
-  config-off : (278 ≤ a) ⊎ (a + n ≤ 10) → configIn vs ≡ configIn ws
-  unfolding configIn
-  config-off h =
-      let p = mask-off 10 (first h) in
-      let q = mask-off 14 (second h) in
-      let r = mask-off 18 (third h) in
-      let t = fun-ext (types h) in
-      λ i. record { adapters = p i; domains = q i; controls = r i; types = t i }
-    where
-      first : (278 ≤ a) ⊎ (a + n ≤ 10) → (10 + 4 ≤ a) ⊎ (a + n ≤ 10)
-      first (inl l) = inl (omega arith)
-      first (inr l) = inr (omega arith)
-
-      second : (278 ≤ a) ⊎ (a + n ≤ 10) → (14 + 4 ≤ a) ⊎ (a + n ≤ 14)
-      second (inl l) = inl (omega arith)
-      second (inr l) = inr (omega arith)
-
-      third : (278 ≤ a) ⊎ (a + n ≤ 10) → (18 + 4 ≤ a) ⊎ (a + n ≤ 18)
-      third (inl l) = inl (omega arith)
-      third (inr l) = inr (omega arith)
-
-      types : (278 ≤ a) ⊎ (a + n ≤ 10) → (i : ℕ) → cond (ltb i 256) (getD vs (22 + i) 0) 0 ≡ cond (ltb i 256) (getD ws (22 + i) 0) 0
-      types (inr l) i = ap (λ (x : ℕ). cond (ltb i 256) x 0) (o .at (22 + i) (inr (omega arith)))
-      types (inl l) i = go (ltb i 256) refl
-        where
-          go : (b : Bool) → ltb i 256 ≡ b → cond b (getD vs (22 + i) 0) 0 ≡ cond b (getD ws (22 + i) 0) 0
-          go true e = let s : i < 256 = ltb-true i 256 e in o .at (22 + i) (inl (omega arith))
-          go false e = refl
-
 same-device : (v w : Device) → v .present ≡ w .present → v .isOpen ≡ w .isOpen → v .id ≡ w .id → v .adapters ≡ w .adapters
     → v .domains ≡ w .domains → v .controls ≡ w .controls → v ≡ w
 same-device v w a b c d e f = λ i. record { present = a i; isOpen = b i; id = c i; adapters = d i; domains = e i; controls = f i }
@@ -229,23 +177,77 @@ same-id p q = λ i. record { hi = p i; lo = q i }
 same-state : (s t : State) → s .limits ≡ t .limits → s .host ≡ t .host → s .config ≡ t .config → s .device ≡ t .device → s .driver ≡ t .driver → s ≡ t
 same-state s t a b c d e = λ i. record { limits = a i; host = b i; config = c i; device = d i; driver = e i }
 
--- a device apart from the stretch
-device-off : {a n : ℕ} {ws vs : List ℕ} → Off a n ws vs → (p : ℕ) → (deviceAt p + 16 ≤ a) ⊎ (a + n ≤ deviceAt p) → deviceIn vs p ≡ deviceIn ws p
-device-off {a} {n} {ws} {vs} o p h = go (ltb p places) refl
-  where
-    there : (deviceAt p + 16 ≤ a) ⊎ (a + n ≤ deviceAt p) → deviceThere vs p ≡ deviceThere ws p
-    there (inl l) =
-        same-device (deviceThere vs p) (deviceThere ws p) (ap flag (o .at (deviceAt p) (inl (omega arith)))) (ap flag (o .at (deviceAt p + 1) (inl (omega arith))))
-        (same-id (o .at (deviceAt p + 2) (inl (omega arith))) (o .at (deviceAt p + 3) (inl (omega arith)))) (mask-off o (deviceAt p + 4) (inl (omega arith)))
-        (mask-off o (deviceAt p + 8) (inl (omega arith))) (mask-off o (deviceAt p + 12) (inl (omega arith)))
-    there (inr l) =
-        same-device (deviceThere vs p) (deviceThere ws p) (ap flag (o .at (deviceAt p) (inr (omega arith)))) (ap flag (o .at (deviceAt p + 1) (inr (omega arith))))
-        (same-id (o .at (deviceAt p + 2) (inr (omega arith))) (o .at (deviceAt p + 3) (inr (omega arith)))) (mask-off o (deviceAt p + 4) (inr (omega arith)))
-        (mask-off o (deviceAt p + 8) (inr (omega arith))) (mask-off o (deviceAt p + 12) (inr (omega arith)))
+-- the m words from word k on lie apart from the n words from word a on
+abbrev pub Apart : (a n k m : ℕ) → Type 0
+Apart a n k m = (k + m ≤ a) ⊎ (a + n ≤ k)
 
-    go : (b : Bool) → ltb p places ≡ b → deviceIn vs p ≡ deviceIn ws p
-    go true e = let l : p < places = ltb-true p places e in device-there vs p l ∙ there h ∙ sym (device-there ws p l)
-    go false e = let l : places ≤ p = ltb-false p places e in device-past vs p l ∙ sym (device-past ws p l)
+-- what is read apart from the stretch is as it was
+module _ {a n : ℕ} {ws vs : List ℕ} (o : Off a n ws vs) where
+  part : (k m : ℕ) → Apart a n k m → (j l : ℕ) → k ≤ j → j + l ≤ k + m → Apart a n j l
+  part k m (inl h) j l p q = inl (omega arith)
+  part k m (inr h) j l p q = inr (omega arith)
+
+  word-off : (k m : ℕ) → Apart a n k m → (j : ℕ) → k ≤ j → j < k + m → getD vs j 0 ≡ getD ws j 0
+  word-off k m (inl h) j p q = o .at j (inl (omega arith))
+  word-off k m (inr h) j p q = o .at j (inr (omega arith))
+
+  pub four-off : (k : ℕ) → Apart a n k 4 → four vs k ≡ four ws k
+  four-off k h =
+      four-path (word-off k 4 h k (omega arith) (omega arith)) (word-off k 4 h (k + 1) (omega arith) (omega arith))
+      (word-off k 4 h (k + 2) (omega arith) (omega arith)) (word-off k 4 h (k + 3) (omega arith) (omega arith))
+
+  pub mask-off : (k : ℕ) → Apart a n k 4 → maskAt vs k ≡ maskAt ws k
+  unfolding maskAt
+  mask-off k h = ap (bitAt 64) (four-off k h)
+
+  pub limits-off : 2 ≤ a → limitsIn vs ≡ limitsIn ws
+  unfolding limitsIn
+  limits-off h =
+      let p = o .at 0 (inl (omega arith)) in
+      let q = o .at 1 (inl (omega arith)) in
+      λ i. record { adapter = min (p i) 255; domain = min (q i) 255 }
+
+  pub host-off : 10 ≤ a → hostIn vs ≡ hostIn ws
+  unfolding hostIn
+  host-off h =
+      let p = mask-off apmaskAt (inl (omega arith)) in
+      let q = mask-off aqmaskAt (inl (omega arith)) in
+      λ i. record { apmask = p i; aqmask = q i }
+
+  pub config-off : Apart a n 10 268 → configIn vs ≡ configIn ws
+  unfolding configIn
+  config-off h =
+      let p = mask-off 10 (part 10 268 h 10 4 (omega arith) (omega arith)) in
+      let q = mask-off 14 (part 10 268 h 14 4 (omega arith) (omega arith)) in
+      let r = mask-off 18 (part 10 268 h 18 4 (omega arith) (omega arith)) in
+      let t = fun-ext (λ j. types j (ltb j 256) refl) in
+      λ i. record { adapters = p i; domains = q i; controls = r i; types = t i }
+    where
+      types : (j : ℕ) (b : Bool) → ltb j 256 ≡ b → cond b (getD vs (typesAt + j) 0) 0 ≡ cond b (getD ws (typesAt + j) 0) 0
+      types j true e = let s : j < 256 = ltb-true j 256 e in word-off 10 268 h (typesAt + j) (omega arith) (omega arith)
+      types j false e = refl
+
+  pub device-off : (p : ℕ) → Apart a n (deviceAt p) 16 → deviceIn vs p ≡ deviceIn ws p
+  device-off p h = go (ltb p places) refl
+    where
+      k : ℕ
+      k = deviceAt p
+
+      word : (j : ℕ) → k ≤ j → j < k + 16 → getD vs j 0 ≡ getD ws j 0
+      word j l u = word-off k 16 h j l u
+
+      mask : (j : ℕ) → k ≤ j → j + 4 ≤ k + 16 → maskAt vs j ≡ maskAt ws j
+      mask j l u = mask-off j (part k 16 h j 4 l u)
+
+      there : deviceThere vs p ≡ deviceThere ws p
+      there =
+          same-device (deviceThere vs p) (deviceThere ws p) (ap flag (word k (omega arith) (omega arith))) (ap flag (word (k + 1) (omega arith) (omega arith)))
+          (same-id (word (k + 2) (omega arith) (omega arith)) (word (k + 3) (omega arith) (omega arith))) (mask (k + 4) (omega arith) (omega arith))
+          (mask (k + 8) (omega arith) (omega arith)) (mask (k + 12) (omega arith) (omega arith))
+
+      go : (b : Bool) → ltb p places ≡ b → deviceIn vs p ≡ deviceIn ws p
+      go true e = let l : p < places = ltb-true p places e in device-there vs p l ∙ there ∙ sym (device-there ws p l)
+      go false e = let l : places ≤ p = ltb-false p places e in device-past vs p l ∙ sym (device-past ws p l)
 
 -- a mask apart from four words that are put
 pub put-other : (ws : List ℕ) (k : ℕ) (m : List ℕ) (j : ℕ) → (j + 4 ≤ k) ⊎ (k + 4 ≤ j) → four (putFour ws k m) j ≡ four ws j
@@ -331,11 +333,21 @@ unfolding putOpen
 open-length ws p o =
     length-chosen (ltb p places) (set ws (deviceAt p + 1) (cond o 1 0)) ws (length-set ws (deviceAt p + 1) (cond o 1 0))
 
--- the words of a place that is given
+-- the words of a place that is given: the first four, then three masks
+abbrev firstFour : Bool → Id → List ℕ
+firstFour t i = cond t 1 0 ∷ 0 ∷ i .hi ∷ i .lo ∷ []
+
+abbrev place1 : List ℕ → ℕ → Bool → Id → List ℕ
+place1 ws p t i = putFour ws (deviceAt p) (firstFour t i)
+
+abbrev place2 : List ℕ → ℕ → Bool → Id → List ℕ
+place2 ws p t i = putFour (place1 ws p t i) (deviceAt p + 4) zeros
+
+abbrev place3 : List ℕ → ℕ → Bool → Id → List ℕ
+place3 ws p t i = putFour (place2 ws p t i) (deviceAt p + 8) zeros
+
 abbrev placeWords : List ℕ → ℕ → Bool → Id → List ℕ
-placeWords ws p t i =
-    putFour (putFour (putFour (putFour ws (deviceAt p) (cond t 1 0 ∷ 0 ∷ i .hi ∷ i .lo ∷ [])) (deviceAt p + 4) zeros) (deviceAt p + 8) zeros)
-    (deviceAt p + 12) zeros
+placeWords ws p t i = putFour (place3 ws p t i) (deviceAt p + 12) zeros
 
 pub device-length : (ws : List ℕ) (p : ℕ) (t : Bool) (i : Id) → length (putDevice ws p t i) ≡ length ws
 unfolding putDevice
@@ -351,10 +363,14 @@ fresh-length a d = simp (put-length, length-set) (length-replicate {A = ℕ} 406
 
 -- ---- the words of masks
 
+-- what holds of a word holds of each of four like it
+each-like : (P : ℕ → Type 0) (x : ℕ) → P x → (q : ℕ) → q < 4 → P (getD (x ∷ x ∷ x ∷ x ∷ []) q 0)
+each-like P x h = below-four (λ q. P (getD (x ∷ x ∷ x ∷ x ∷ []) q 0)) h h h h
+
 zero-bits : bitAt 64 zeros ≡ noBits
 unfolding noBits
 zero-bits =
-    fun-ext (each-bits 64 4 zeros noBits (omega arith) refl (λ q j l _. below-four (λ r. digit (getD zeros r 0) (63 - j) ≡ false) (digit-zero (63 - j)) (digit-zero (63 - j)) (digit-zero (63 - j)) (digit-zero (63 - j)) q l) (λ i l. refl))
+    fun-ext (each-bits 64 4 zeros noBits (omega arith) refl (λ q j l _. each-like (λ x. digit x (63 - j) ≡ false) 0 (digit-zero (63 - j)) q l) (λ i l. refl))
 
 abbrev allOnes : List ℕ
 allOnes = ones ∷ ones ∷ ones ∷ ones ∷ []
@@ -364,8 +380,8 @@ unfolding allBits
 one-bits =
     fun-ext
     (each-bits 64 4 allOnes allBits (omega arith) refl
-    (λ q j l h. below-four (λ r. digit (getD allOnes r 0) (63 - j) ≡ ltb (63 - j) 64) (digit-ones 64 (63 - j)) (digit-ones 64 (63 - j)) (digit-ones 64 (63 - j)) (digit-ones 64 (63 - j)) q l
-    ∙ lt-ltb (63 - j) 64 (omega arith) ∙ sym (lt-ltb (q * 64 + j) 256 (omega arith)))
+    (λ q j l h. each-like (λ x. digit x (63 - j) ≡ ltb (63 - j) 64) ones (digit-ones 64 (63 - j)) q l ∙ lt-ltb (63 - j) 64 (omega arith)
+    ∙ sym (lt-ltb (q * 64 + j) 256 (omega arith)))
     (λ i l. le-ltb i 256 (omega arith)))
 
 -- the mask of words is the words
@@ -387,25 +403,31 @@ words-bits m none = fun-ext (λ i. go i (ltb i 256) refl)
 
 -- ---- the state after a put
 
-module _ (ws : List ℕ) (qs m : List ℕ) (long : length ws ≡ 406) (four-words : length m ≡ 4) where
+-- words that differ in the host's masks hold the state with those replaced
+pub read-host : {ws vs : List ℕ} (qs : List ℕ) (h : HostMasks) → Off 2 8 ws vs → hostIn vs ≡ h → stateIn vs qs ≡ withHost h (stateIn ws qs)
+unfolding stateIn withHost
+read-host {ws} {vs} qs h o e =
+    same-state (stateIn vs qs) (withHost h (stateIn ws qs)) (limits-off o (omega arith)) e (config-off o (inr (omega arith)))
+    (fun-ext (λ p. device-off o p (inr (omega arith)))) refl
+
+module _ (ws qs m : List ℕ) (long : length ws ≡ 406) (four-words : length m ≡ 4) where
   pub read-apmask : stateIn (putFour ws apmaskAt m) qs ≡ withHost (record { apmask = bitAt 64 m; aqmask = hostIn ws .aqmask }) (stateIn ws qs)
-  unfolding stateIn withHost hostIn maskAt
+  unfolding hostIn maskAt
   read-apmask =
-      let o = off-four ws 2 m in
-      let p = ap (bitAt 64) (put-get ws 2 m (omega arith) four-words) in
-      let q = mask-off o 6 (inr (omega arith)) in
-      let l = o .at 0 (inl (omega arith)) in
-      same-state (stateIn (putFour ws 2 m) qs) (withHost (record { apmask = bitAt 64 m; aqmask = hostIn ws .aqmask }) (stateIn ws qs)) (limits-off o (omega arith)) (λ i. record { apmask = p i; aqmask = q i }) (config-off o (inr (omega arith)))
-      (fun-ext (λ p. device-off o p (inr (omega arith)))) refl
+      let o = off-four ws apmaskAt m in
+      let p = ap (bitAt 64) (put-get ws apmaskAt m (omega arith) four-words) in
+      let q = mask-off o aqmaskAt (inr (omega arith)) in
+      read-host qs (record { apmask = bitAt 64 m; aqmask = hostIn ws .aqmask }) (off-wider 2 8 o (omega arith) (omega arith))
+      (λ i. record { apmask = p i; aqmask = q i })
 
   pub read-aqmask : stateIn (putFour ws aqmaskAt m) qs ≡ withHost (record { apmask = hostIn ws .apmask; aqmask = bitAt 64 m }) (stateIn ws qs)
-  unfolding stateIn withHost hostIn maskAt
+  unfolding hostIn maskAt
   read-aqmask =
-      let o = off-four ws 6 m in
-      let p = mask-off o 2 (inl (omega arith)) in
-      let q = ap (bitAt 64) (put-get ws 6 m (omega arith) four-words) in
-      same-state (stateIn (putFour ws 6 m) qs) (withHost (record { apmask = hostIn ws .apmask; aqmask = bitAt 64 m }) (stateIn ws qs)) (limits-off o (omega arith)) (λ i. record { apmask = p i; aqmask = q i }) (config-off o (inr (omega arith)))
-      (fun-ext (λ p. device-off o p (inr (omega arith)))) refl
+      let o = off-four ws aqmaskAt m in
+      let p = mask-off o apmaskAt (inl (omega arith)) in
+      let q = ap (bitAt 64) (put-get ws aqmaskAt m (omega arith) four-words) in
+      read-host qs (record { apmask = hostIn ws .apmask; aqmask = bitAt 64 m }) (off-wider 2 8 o (omega arith) (omega arith))
+      (λ i. record { apmask = p i; aqmask = q i })
 
 -- words that differ at one place hold the state with that device replaced
 pub read-device : {ws vs : List ℕ} (qs : List ℕ) (p : ℕ) (v : Device) → p < places → Off (deviceAt p) 16 ws vs → deviceIn vs p ≡ v
@@ -423,6 +445,10 @@ read-device {ws} {vs} qs p v h o e =
     go j true t = ap (deviceIn vs) (eqb-true j p t) ∙ e
     go j false t = other j (ltb j p) refl (eqb-false j p t)
 
+-- a device that nothing is assigned to
+abbrev givenDevice : Bool → Id → Device
+givenDevice t i = record { present = t; isOpen = false; id = i; adapters = noBits; domains = noBits; controls = noBits }
+
 flag-of : (t : Bool) → flag (cond t 1 0) ≡ t
 unfolding flag
 flag-of true = refl
@@ -433,18 +459,29 @@ module _ (ws : List ℕ) (qs : List ℕ) (p : ℕ) (long : length ws ≡ 406) (t
   device-numbers : (k : Kind) (m vs : List ℕ) → Off (deviceAt p + kindAt k) 4 ws vs → maskAt vs (deviceAt p + kindAt k) ≡ bitAt 64 m
       → deviceThere vs p ≡ withNumbers k (bitAt 64 m) (deviceThere ws p)
   unfolding withNumbers
-  device-numbers Adapter m vs o e =
-      same-device (deviceThere vs p) (withNumbers Adapter (bitAt 64 m) (deviceThere ws p)) (ap flag (o .at (deviceAt p) (inl (omega arith)))) (ap flag (o .at (deviceAt p + 1) (inl (omega arith))))
-      (same-id (o .at (deviceAt p + 2) (inl (omega arith))) (o .at (deviceAt p + 3) (inl (omega arith)))) e
-      (mask-off o (deviceAt p + 8) (inr (omega arith))) (mask-off o (deviceAt p + 12) (inr (omega arith)))
-  device-numbers Domain m vs o e =
-      same-device (deviceThere vs p) (withNumbers Domain (bitAt 64 m) (deviceThere ws p)) (ap flag (o .at (deviceAt p) (inl (omega arith)))) (ap flag (o .at (deviceAt p + 1) (inl (omega arith))))
-      (same-id (o .at (deviceAt p + 2) (inl (omega arith))) (o .at (deviceAt p + 3) (inl (omega arith)))) (mask-off o (deviceAt p + 4) (inl (omega arith)))
-      e (mask-off o (deviceAt p + 12) (inr (omega arith)))
-  device-numbers Control m vs o e =
-      same-device (deviceThere vs p) (withNumbers Control (bitAt 64 m) (deviceThere ws p)) (ap flag (o .at (deviceAt p) (inl (omega arith)))) (ap flag (o .at (deviceAt p + 1) (inl (omega arith))))
-      (same-id (o .at (deviceAt p + 2) (inl (omega arith))) (o .at (deviceAt p + 3) (inl (omega arith)))) (mask-off o (deviceAt p + 4) (inl (omega arith)))
-      (mask-off o (deviceAt p + 8) (inl (omega arith))) e
+  device-numbers k m vs o e = go k o e
+    where
+      first : (j : ℕ) → Off j 4 ws vs → deviceAt p + 4 ≤ j → (deviceThere vs p .present ≡ deviceThere ws p .present) × (deviceThere vs p .isOpen ≡ deviceThere ws p .isOpen) × (deviceThere vs p .id ≡ deviceThere ws p .id)
+      first j o h = (
+        ap flag (o .at (deviceAt p) (inl (omega arith))),
+        ap flag (o .at (deviceAt p + 1) (inl (omega arith))),
+        same-id (o .at (deviceAt p + 2) (inl (omega arith))) (o .at (deviceAt p + 3) (inl (omega arith))),
+      )
+
+      go : (k : Kind) → Off (deviceAt p + kindAt k) 4 ws vs → maskAt vs (deviceAt p + kindAt k) ≡ bitAt 64 m
+          → deviceThere vs p ≡ withNumbers k (bitAt 64 m) (deviceThere ws p)
+      go Adapter o e =
+          let (a, b, c) = first (deviceAt p + 4) o (omega arith) in
+          same-device (deviceThere vs p) (withNumbers Adapter (bitAt 64 m) (deviceThere ws p)) a b c e (mask-off o (deviceAt p + 8) (inr (omega arith)))
+          (mask-off o (deviceAt p + 12) (inr (omega arith)))
+      go Domain o e =
+          let (a, b, c) = first (deviceAt p + 8) o (omega arith) in
+          same-device (deviceThere vs p) (withNumbers Domain (bitAt 64 m) (deviceThere ws p)) a b c (mask-off o (deviceAt p + 4) (inl (omega arith))) e
+          (mask-off o (deviceAt p + 12) (inr (omega arith)))
+      go Control o e =
+          let (a, b, c) = first (deviceAt p + 12) o (omega arith) in
+          same-device (deviceThere vs p) (withNumbers Control (bitAt 64 m) (deviceThere ws p)) a b c (mask-off o (deviceAt p + 4) (inl (omega arith)))
+          (mask-off o (deviceAt p + 8) (inl (omega arith))) e
 
   pub read-numbers : (k : Kind) (m : List ℕ) → length m ≡ 4 → stateIn (putNumbers ws p k m) qs ≡ withDevice p (withNumbers k (bitAt 64 m) (deviceIn ws p)) (stateIn ws qs)
   unfolding putNumbers maskAt
@@ -469,65 +506,50 @@ module _ (ws : List ℕ) (qs : List ℕ) (p : ℕ) (long : length ws ≡ 406) (t
       (mask-off o (deviceAt p + 8) (inr (omega arith))) (mask-off o (deviceAt p + 12) (inr (omega arith)))
       ∙ ap (withOpen t) (sym (device-there ws p there)))
 
-  -- a place that is given: its first four words, then no number
-  device-given : (t : Bool) (i : Id) → deviceThere (placeWords ws p t i) p
-      ≡ record { present = t; isOpen = false; id = i; adapters = noBits; domains = noBits; controls = noBits }
+  -- either way of giving a place
+  device-given : (t : Bool) (i : Id) → deviceThere (placeWords ws p t i) p ≡ givenDevice t i
   unfolding maskAt
   device-given t i =
-      same-device (deviceThere s4 p) (record { present = t; isOpen = false; id = i; adapters = noBits; domains = noBits; controls = noBits })
-      (ap (λ (l : List ℕ). flag (getD l 0 0)) head ∙ flag-of t) (ap (λ (l : List ℕ). flag (getD l 1 0)) head ∙ flag-of false)
-      (same-id (ap (λ (l : List ℕ). getD l 2 0) head) (ap (λ (l : List ℕ). getD l 3 0) head))
-      (ap (bitAt 64) (put-other s3 (k + 12) zeros (k + 4) (inl (omega arith)) ∙ put-other s2 (k + 8) zeros (k + 4) (inl (omega arith)) ∙ put-get s1 (k + 4) zeros (simp put-length (omega arith)) refl) ∙ zero-bits)
+      same-device (deviceThere (placeWords ws p t i) p) (givenDevice t i) (ap (λ (l : List ℕ). flag (getD l 0 0)) first ∙ flag-of t)
+      (ap (λ (l : List ℕ). flag (getD l 1 0)) first ∙ flag-of false) (same-id (ap (λ (l : List ℕ). getD l 2 0) first) (ap (λ (l : List ℕ). getD l 3 0) first))
+      (ap (bitAt 64)
+      (put-other s3 (k + 12) zeros (k + 4) (inl (omega arith)) ∙ put-other s2 (k + 8) zeros (k + 4) (inl (omega arith))
+      ∙ put-get s1 (k + 4) zeros (simp put-length (omega arith)) refl)
+      ∙ zero-bits)
       (ap (bitAt 64) (put-other s3 (k + 12) zeros (k + 8) (inl (omega arith)) ∙ put-get s2 (k + 8) zeros (simp put-length (omega arith)) refl) ∙ zero-bits)
       (ap (bitAt 64) (put-get s3 (k + 12) zeros (simp put-length (omega arith)) refl) ∙ zero-bits)
     where
       k : ℕ
       k = deviceAt p
 
-      first : List ℕ
-      first = cond t 1 0 ∷ 0 ∷ i .hi ∷ i .lo ∷ []
-
       s1 : List ℕ
-      s1 = putFour ws k first
+      s1 = place1 ws p t i
 
       s2 : List ℕ
-      s2 = putFour s1 (k + 4) zeros
+      s2 = place2 ws p t i
 
       s3 : List ℕ
-      s3 = putFour s2 (k + 8) zeros
+      s3 = place3 ws p t i
 
-      s4 : List ℕ
-      s4 = putFour s3 (k + 12) zeros
-
-      head : four s4 k ≡ first
-      head =
+      first : four (placeWords ws p t i) k ≡ firstFour t i
+      first =
           put-other s3 (k + 12) zeros k (inl (omega arith)) ∙ put-other s2 (k + 8) zeros k (inl (omega arith))
-          ∙ put-other s1 (k + 4) zeros k (inl (omega arith)) ∙ put-get ws k first (omega arith) refl
+          ∙ put-other s1 (k + 4) zeros k (inl (omega arith)) ∙ put-get ws k (firstFour t i) (omega arith) refl
 
-  -- either way of giving a place
-  read-given : (t : Bool) (i : Id) → stateIn (putDevice ws p t i) qs
-      ≡ withDevice p (record { present = t; isOpen = false; id = i; adapters = noBits; domains = noBits; controls = noBits }) (stateIn ws qs)
+  read-given : (t : Bool) (i : Id) → stateIn (putDevice ws p t i) qs ≡ withDevice p (givenDevice t i) (stateIn ws qs)
   unfolding putDevice
   read-given t i =
       ap (λ (vs : List ℕ). stateIn vs qs) (cond-below p places (placeWords ws p t i) ws there)
-      ∙ read-device qs p (record { present = t; isOpen = false; id = i; adapters = noBits; domains = noBits; controls = noBits }) there
-      (off-then (off-then (off-then (wide ws (deviceAt p) first (omega arith) (omega arith)) (wide s1 (deviceAt p + 4) zeros (omega arith) (omega arith))) (wide s2 (deviceAt p + 8) zeros (omega arith) (omega arith))) (wide s3 (deviceAt p + 12) zeros (omega arith) (omega arith)))
+      ∙ read-device qs p (givenDevice t i) there
+      (off-then
+      (off-then
+      (off-then (within ws (deviceAt p) (firstFour t i) (omega arith) (omega arith)) (within (place1 ws p t i) (deviceAt p + 4) zeros (omega arith) (omega arith)))
+      (within (place2 ws p t i) (deviceAt p + 8) zeros (omega arith) (omega arith)))
+      (within (place3 ws p t i) (deviceAt p + 12) zeros (omega arith) (omega arith)))
       (device-there (placeWords ws p t i) p there ∙ device-given t i)
     where
-      wide : (us : List ℕ) (k : ℕ) (m : List ℕ) → deviceAt p ≤ k → k + 4 ≤ deviceAt p + 16 → Off (deviceAt p) 16 us (putFour us k m)
-      wide us k m l h = off-wider (deviceAt p) 16 (off-four us k m) l h
-
-      first : List ℕ
-      first = cond t 1 0 ∷ 0 ∷ i .hi ∷ i .lo ∷ []
-
-      s1 : List ℕ
-      s1 = putFour ws (deviceAt p) first
-
-      s2 : List ℕ
-      s2 = putFour s1 (deviceAt p + 4) zeros
-
-      s3 : List ℕ
-      s3 = putFour s2 (deviceAt p + 8) zeros
+      within : (us : List ℕ) (k : ℕ) (m : List ℕ) → deviceAt p ≤ k → k + 4 ≤ deviceAt p + 16 → Off (deviceAt p) 16 us (putFour us k m)
+      within us k m l h = off-wider (deviceAt p) 16 (off-four us k m) l h
 
   pub read-new : (i : Id) → stateIn (putDevice ws p true i) qs ≡ withDevice p (newDevice i) (stateIn ws qs)
   unfolding newDevice
@@ -645,9 +667,15 @@ module _ (ws : List ℕ) (c : Configuration) (long : length ws ≡ 406) (wa : Wo
 
 -- ---- a fresh record
 
--- zeros with the limits and both host masks put
+-- zeros with the limits put, with one host mask, and with both
+abbrev limitWords : List ℕ → ℕ → ℕ → List ℕ
+limitWords zs a d = set (set zs 0 a) 1 d
+
+abbrev hostWords : List ℕ → ℕ → ℕ → List ℕ
+hostWords zs a d = putFour (limitWords zs a d) apmaskAt allOnes
+
 abbrev freshOver : List ℕ → ℕ → ℕ → List ℕ
-freshOver zs a d = putFour (putFour (set (set zs 0 a) 1 d) 2 allOnes) 6 allOnes
+freshOver zs a d = putFour (hostWords zs a d) aqmaskAt allOnes
 
 zero-at : (n q : ℕ) → getD {A = ℕ} (replicate n 0) q 0 ≡ 0
 zero-at zero q = refl
@@ -655,17 +683,10 @@ zero-at (suc n) zero = refl
 zero-at (suc n) (suc q) = zero-at n q
 
 module _ (zs qs : List ℕ) (a d : ℕ) (long : length zs ≡ 406) (none : (j : ℕ) → getD zs j 0 ≡ 0) (no-driver : (q : ℕ) → getD qs q 0 ≡ 0) where
-  two : List ℕ
-  two = set (set zs 0 a) 1 d
-
-  two-long : length two ≡ 406
-  unfolding two
-  two-long = simp length-set long
-
   -- past the host's masks all words are 0
   past-ten : (j : ℕ) → 10 ≤ j → getD (freshOver zs a d) j 0 ≡ 0
   past-ten j h =
-      word-other (putFour (set (set zs 0 a) 1 d) 2 allOnes) 6 allOnes j (inr (omega arith)) ∙ word-other (set (set zs 0 a) 1 d) 2 allOnes j (inr (omega arith))
+      word-other (hostWords zs a d) aqmaskAt allOnes j (inr (omega arith)) ∙ word-other (limitWords zs a d) apmaskAt allOnes j (inr (omega arith))
       ∙ getD-set-other (set zs 0 a) 1 j d 0 (omega arith) ∙ getD-set-other zs 0 j a 0 (omega arith) ∙ none j
 
   no-mask : (k : ℕ) → 10 ≤ k → maskAt (freshOver zs a d) k ≡ noBits
@@ -676,19 +697,18 @@ module _ (zs qs : List ℕ) (a d : ℕ) (long : length zs ≡ 406) (none : (j : 
   fresh-limits : a ≤ 255 → d ≤ 255 → limitsIn (freshOver zs a d) ≡ record { adapter = a; domain = d }
   unfolding limitsIn
   fresh-limits ha hd =
-      let p = ap (λ (x : ℕ). min x 255)
-      (word-other (putFour (set (set zs 0 a) 1 d) 2 allOnes) 6 allOnes 0 (inl (omega arith)) ∙ word-other (set (set zs 0 a) 1 d) 2 allOnes 0 (inl (omega arith))
-      ∙ getD-set-other (set zs 0 a) 1 0 d 0 (omega arith) ∙ getD-set-same zs 0 a 0 (omega arith)) ∙ min-eq-left ha in
-      let q = ap (λ (x : ℕ). min x 255)
-      (word-other (putFour (set (set zs 0 a) 1 d) 2 allOnes) 6 allOnes 1 (inl (omega arith)) ∙ word-other (set (set zs 0 a) 1 d) 2 allOnes 1 (inl (omega arith))
-      ∙ getD-set-same (set zs 0 a) 1 d 0 (simp length-set (omega arith))) ∙ min-eq-left hd in
+      let p = ap (λ (x : ℕ). min x 255) (first 0 (omega arith) ∙ getD-set-other (set zs 0 a) 1 0 d 0 (omega arith) ∙ getD-set-same zs 0 a 0 (omega arith)) ∙ min-eq-left ha in
+      let q = ap (λ (x : ℕ). min x 255) (first 1 (omega arith) ∙ getD-set-same (set zs 0 a) 1 d 0 (simp length-set (omega arith))) ∙ min-eq-left hd in
       λ i. record { adapter = p i; domain = q i }
+    where
+      first : (j : ℕ) → j < 2 → getD (freshOver zs a d) j 0 ≡ getD (limitWords zs a d) j 0
+      first j h = word-other (hostWords zs a d) aqmaskAt allOnes j (inl (omega arith)) ∙ word-other (limitWords zs a d) apmaskAt allOnes j (inl (omega arith))
 
   fresh-host : hostIn (freshOver zs a d) ≡ record { apmask = allBits; aqmask = allBits }
   unfolding hostIn maskAt
   fresh-host =
-      let p = ap (bitAt 64) (put-other (putFour (set (set zs 0 a) 1 d) 2 allOnes) 6 allOnes 2 (inl (omega arith)) ∙ put-get (set (set zs 0 a) 1 d) 2 allOnes (simp length-set (omega arith)) refl) ∙ one-bits in
-      let q = ap (bitAt 64) (put-get (putFour (set (set zs 0 a) 1 d) 2 allOnes) 6 allOnes (simp (put-length, length-set) (omega arith)) refl) ∙ one-bits in
+      let p = ap (bitAt 64) (put-other (hostWords zs a d) aqmaskAt allOnes 2 (inl (omega arith)) ∙ put-get (limitWords zs a d) apmaskAt allOnes (simp length-set (omega arith)) refl) ∙ one-bits in
+      let q = ap (bitAt 64) (put-get (hostWords zs a d) aqmaskAt allOnes (simp (put-length, length-set) (omega arith)) refl) ∙ one-bits in
       λ i. record { apmask = p i; aqmask = q i }
 
   fresh-config : configIn (freshOver zs a d) ≡ record { adapters = noBits; domains = noBits; controls = noBits; types = λ i. 0 }

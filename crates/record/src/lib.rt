@@ -261,23 +261,14 @@ fn type_of(configured: bool, t: u8) -> u64
 pub fn put_fresh(s: &mut [u64; WORDS], adapter: u8, domain: u8)
     ensures { λ r. ⌜ now (s .exit) ≡ freshWords adapter domain ⌝ }
 {
+    let ones = Mask {
+        words: [u64::MAX; 4],
+    };
     *s = [0u64; WORDS];
     s[0] = adapter as u64;
     s[1] = domain as u64;
-    put_mask(
-        s,
-        2,
-        Mask {
-            words: [u64::MAX; 4],
-        },
-    );
-    put_mask(
-        s,
-        6,
-        Mask {
-            words: [u64::MAX; 4],
-        },
-    );
+    put_mask(s, 2, ones);
+    put_mask(s, 6, ones);
 }
 
 pub fn driver(q: &[u8; 65536], a: Apid, d: Apqi) -> Driver

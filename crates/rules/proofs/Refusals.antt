@@ -45,7 +45,8 @@ place-present i vs h =
     let p = firstFrom places 0 (λ p. vs p .present && sameId i (vs p .id)) in
     and-eq-true-iff (vs p .present) (sameId i (vs p .id)) .0 (first-holds places 0 (λ p. vs p .present && sameId i (vs p .id)) (omega arith)) .0
 
-adds-paired : (k : Kind) (n : ℕ) (v : Device) → v .present ≡ true → numbersOf k v n ≡ false → (q : ℕ) → adds k n v q ≡ paired k n v q
+-- what a new number adds is what it pairs with
+pub adds-paired : (k : Kind) (n : ℕ) (v : Device) → v .present ≡ true → numbersOf k v n ≡ false → (q : ℕ) → adds k n v q ≡ paired k n v q
 unfolding adds paired product withNumbers numbersOf inProduct single included noBits
 adds-paired Adapter n v e h q =
     ap (λ (b : Bool). (b && ((eqb (q / 256) n || v .adapters (q / 256)) && v .domains (q % 256))) && not (b && (v .adapters (q / 256) && v .domains (q % 256)))) e

@@ -144,8 +144,13 @@ fn einval() {
     let name = errno::name(Errno::Einval);
     let bytes = name.bytes;
     let len = name.len;
-    if len < 14 {
-        io::write_all(OUT, &bytes[..len]);
+    start(bytes, len);
+}
+
+// The first n bytes, of at most 14.
+fn start(bytes: [u8; 14], n: usize) {
+    if n < 15 {
+        io::write_all(OUT, &bytes[..n]);
     }
 }
 
@@ -238,24 +243,25 @@ fn item_lengths() {
 
 // Every byte at every place of a number's text: a line for each that is good.
 fn number_bytes(t: &[u8]) {
-    let mut s = [0u8; 16];
     let mut place = 0usize;
     while place < t.len() {
         let mut b = 0usize;
         while b < 256 {
-            let n = copy(t, &mut s);
-            if place < n {
-                s[place] = (b % 256) as u8;
-                good_number(&s[..n], place, b);
-            }
+            good_number(changed(t, place, b), t.len(), place, b);
             b += 1;
         }
         place += 1;
     }
 }
 
-fn good_number(s: &[u8], place: usize, b: usize) {
-    match number::parse(s) {
+fn good_number(s: [u8; 16], n: usize, place: usize, b: usize) {
+    if n < 17 {
+        number_line(number::parse(&s[..n]), place, b);
+    }
+}
+
+fn number_line(n: Number, place: usize, b: usize) {
+    match n {
         Number::Value(v) => {
             at(place, b);
             decimal(v);
@@ -267,24 +273,24 @@ fn good_number(s: &[u8], place: usize, b: usize) {
 
 // Every byte at every place of a mask's text, on the mask of all ones: a line for each that is good.
 fn mask_bytes(t: &[u8]) {
-    let mut s = [0u8; 16];
     let mut place = 0usize;
     while place < t.len() {
         let mut b = 0usize;
         while b < 256 {
-            let n = copy(t, &mut s);
-            if place < n {
-                s[place] = (b % 256) as u8;
-                good_mask(&s[..n], place, b);
-            }
+            good_mask(changed(t, place, b), t.len(), place, b);
             b += 1;
         }
         place += 1;
     }
 }
 
-fn good_mask(s: &[u8], place: usize, b: usize) {
-    let r = masktext::parse(s, Mask::full());
+fn good_mask(s: [u8; 16], n: usize, place: usize, b: usize) {
+    if n < 17 {
+        mask_line(masktext::parse(&s[..n], Mask::full()), place, b);
+    }
+}
+
+fn mask_line(r: masktext::MaskRead, place: usize, b: usize) {
     if r.good {
         at(place, b);
         let m = r.mask;
@@ -301,15 +307,18 @@ fn at(place: usize, b: usize) {
     io::write_all(OUT, b" ");
 }
 
-// Copies a text of at most 16 bytes, and answers its length, or 0 where it is longer.
-fn copy(t: &[u8], s: &mut [u8; 16]) -> usize {
-    if 16 < t.len() {
-        return 0;
-    }
+// A text of at most 16 bytes, with another byte at a place.
+fn changed(t: &[u8], place: usize, b: usize) -> [u8; 16] {
+    let mut s = [0u8; 16];
     let mut i = 0usize;
     while i < t.len() {
-        s[i] = t[i];
+        if i < 16 {
+            s[i] = t[i];
+        }
         i += 1;
     }
-    t.len()
+    if place < 16 {
+        s[place] = (b % 256) as u8;
+    }
+    s
 }
