@@ -235,9 +235,13 @@ fn list(s: &[u64; WORDS], q: &[u8; 65536], n: u64, place: usize, room: usize) {
     if room < 33 {
         let r = listing::list(s, q, id(n), Matrix::Guest, place, &mut buf[..room]);
         listed(r);
-        io::write_all(OUT, &buf);
-        io::write_all(OUT, b"\n");
+        whole(buf);
     }
+}
+
+fn whole(buf: [u8; 32]) {
+    io::write_all(OUT, &buf);
+    io::write_all(OUT, b"\n");
 }
 
 fn listed(r: Listed) {
@@ -346,8 +350,13 @@ fn name(e: Errno) {
     let a = errno::name(e);
     let bytes = a.bytes;
     let len = a.len;
-    if len < 15 {
-        io::write_all(OUT, &bytes[..len]);
+    start(bytes, len);
+}
+
+// The first n bytes, of at most 14.
+fn start(bytes: [u8; 14], n: usize) {
+    if n < 15 {
+        io::write_all(OUT, &bytes[..n]);
     }
 }
 

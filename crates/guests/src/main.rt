@@ -112,8 +112,13 @@ fn list(s: &[u64; WORDS], q: &[u8; 65536], n: u64) {
     let mut buf = [0u8; 64];
     let r = listing::list(s, q, id(n), Matrix::Guest, 0, &mut buf);
     let written = r.written;
-    if written < 65 {
-        io::write_all(OUT, &buf[..written]);
+    lines(buf, written);
+}
+
+// The first n bytes, of at most 64.
+fn lines(buf: [u8; 64], n: usize) {
+    if n < 65 {
+        io::write_all(OUT, &buf[..n]);
     }
 }
 
@@ -140,7 +145,12 @@ fn name(e: Errno) {
     let a = errno::name(e);
     let bytes = a.bytes;
     let len = a.len;
-    if len < 15 {
-        io::write_all(OUT, &bytes[..len]);
+    start(bytes, len);
+}
+
+// The first n bytes, of at most 14.
+fn start(bytes: [u8; 14], n: usize) {
+    if n < 15 {
+        io::write_all(OUT, &bytes[..n]);
     }
 }
