@@ -13,15 +13,15 @@ use rules::Kind;
 use rules::Masks;
 use rules::Matrix;
 ghost use mathlib.Core.Path.{_≡_};
-ghost use mathlib.Core.Bool.{cond, not, _&&_, true, false};
-ghost use lib.ListN.{getD};
+ghost use mathlib.Core.Bool.{cond, not, _&&_};
 ghost use lib.Dec.{eqb, ltb};
 ghost use Prim.Native.Nat.{_+_, _*_, _<_};
-ghost use Rattle.mask.specs.Bits.{bits, noBits, someBelow};
+ghost use Rattle.mask.specs.Bits.{bits};
 ghost use Rattle.rules.specs.State.{places};
 ghost use Rattle.rules.specs.Queues.{matrixAdapters, matrixDomains, matrixControls, usable};
 ghost use Rattle.rules.specs.Commands.{answered, placeOf};
 ghost use Rattle.record.specs.Layout.{stateIn, deviceIn};
+ghost use Rattle.guest.specs.Row.{heldBack};
 
 // The masks of a device, or a refusal and empty masks where no device has the id.
 pub struct Shown {
@@ -38,16 +38,20 @@ pub fn masks(s: &[u64; WORDS], q: &[u8; 65536], i: Id, w: Matrix) -> Shown
 {
     let p = lookup::find(s, i);
     let m = masks_at(s, q, p, w);
-    if p < PLACES {
-        return Shown {
-            answer: Answer::Done,
-            masks: m,
-        };
-    }
     Shown {
-        answer: Answer::Refused(Errno::Enoent),
+        answer: found(p),
         masks: m,
     }
+}
+
+// The answer for the place of an id: a refusal past the last place.
+fn found(p: usize) -> Answer
+    ensures { λ r. ⌜ answered r ≡ cond (ltb p places) 0 2 ⌝ }
+{
+    if p < PLACES {
+        return Answer::Done;
+    }
+    Answer::Refused(Errno::Enoent)
 }
 
 // A matrix of the device at place p: nothing past the last place.
@@ -95,7 +99,9 @@ pub fn usable(s: &[u64; WORDS], q: &[u8; 65536], i: Id, a: Apid, d: Apqi) -> boo
 }
 
 // The adapters of which every queue of the domains is bound to passthrough.
-fn passed_adapters(q: &[u8; 65536], adapters: Mask, domains: Mask) -> Mask {
+fn passed_adapters(q: &[u8; 65536], adapters: Mask, domains: Mask) -> Mask
+    ensures { λ r. ⌜ bits r ≡ (λ j. bits adapters j && not (heldBack (now (q .entry)) (bits domains) j)) ⌝ }
+{
     let mut m = adapters;
     let mut a = 0usize;
     while a < 256 {
@@ -108,6 +114,7 @@ fn passed_adapters(q: &[u8; 65536], adapters: Mask, domains: Mask) -> Mask {
 // A mask with adapter a dropped, if it is there and one of its queues is not passed through.
 fn kept_adapter(q: &[u8; 65536], a: usize, m: Mask, domains: Mask) -> Mask
     requires { ⌜ a < 256 ⌝ }
+    ensures { λ r. ⌜ bits r ≡ (λ j. bits m j && not (eqb j a && heldBack (now (q .entry)) (bits domains) j)) ⌝ }
 {
     if m.has((a % 256) as u8) {
         if !row_passed(q, a, domains) {
@@ -120,6 +127,7 @@ fn kept_adapter(q: &[u8; 65536], a: usize, m: Mask, domains: Mask) -> Mask
 // Whether every queue of adapter a and these domains is bound to passthrough.
 fn row_passed(q: &[u8; 65536], a: usize, domains: Mask) -> bool
     requires { ⌜ a < 256 ⌝ }
+    ensures { λ r. ⌜ r ≡ not (heldBack (now (q .entry)) (bits domains) a) ⌝ }
 {
     let mut d = 0usize;
     while d < 256 {
