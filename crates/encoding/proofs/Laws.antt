@@ -4,14 +4,13 @@ use Prim.Native.Nat.{ℕ, zero, suc, _+_, _-_, _*_, _/_, _%_, _≤_, _<_}
 use native.Mathlib.Nat.{add-zero}
 use native.Mathlib.Omega.{arith}
 use mathlib.Core.Path.{_≡_, refl, sym, ap, ap₂, _∙_}
-use mathlib.Core.Bool.{Bool, true, false, cond}
-use mathlib.Core.List.{List, [], _∷_}
+use mathlib.Core.Bool.{Bool, cond}
+use mathlib.Core.List.{List}
 use lib.ListN.{length, getD, drop, length-drop}
 use lib.Seq.{ext-getD, getD-drop}
-use lib.Dec.{leb}
 use borrow.Author.Tests.{le-leb, lt-leb}
 use Rattle.mask.specs.declared.Mask.{Mask}
-use Rattle.mask.specs.Bits.{digit, bitAt, bits, numbers}
+use Rattle.mask.specs.Bits.{digit, bitAt, bits}
 use Rattle.mask.proofs.Laws.{Words, same-bits, numbers-words, numbers-bits}
 use Rattle.encoding.specs.Encoding.{bytesAt, maskOf, sizeOf, whole}
 

@@ -2,7 +2,6 @@
 -- Assumes nothing.
 use borrow.Author.Tests.{eq-eqb, ne-eqb}
 use Rattle.encoding.specs.Encoding.{kindOf}
-use borrow.Author.Needs.{needs}
 use Rattle.encoding.proofs.kind_of.Statement.{statement}
 use Rattle.encoding.proofs.kind_of.Tie as tie
 
