@@ -42,22 +42,35 @@ fn limits(s: &mut [u64; WORDS], q: &mut [u8; 65536]) {
 
 // Eight devices, a ninth, and the place of one that was removed (setting 14).
 fn places(s: &mut [u64; WORDS]) {
-    let mut n = 1u64;
-    while n < 9 {
-        answer(b"create", devices::create(s, id(n)));
-        n += 1;
-    }
+    made(s, 1);
+    made(s, 2);
+    made(s, 3);
+    made(s, 4);
+    made(s, 5);
+    made(s, 6);
+    made(s, 7);
+    made(s, 8);
     answer(b"create 9", devices::create(s, id(9)));
     answer(b"create 1", devices::create(s, id(1)));
     answer(b"remove 4", devices::remove(s, id(4)));
     answer(b"create 9", devices::create(s, id(9)));
     answer(b"create 10", devices::create(s, id(10)));
     answer(b"remove 10", devices::remove(s, id(10)));
-    let mut m = 3u64;
-    while m < 10 {
-        answer(b"remove", devices::remove(s, id(m)));
-        m += 1;
-    }
+    gone(s, 3);
+    gone(s, 4);
+    gone(s, 5);
+    gone(s, 6);
+    gone(s, 7);
+    gone(s, 8);
+    gone(s, 9);
+}
+
+fn made(s: &mut [u64; WORDS], n: u64) {
+    answer(b"create", devices::create(s, id(n)));
+}
+
+fn gone(s: &mut [u64; WORDS], n: u64) {
+    answer(b"remove", devices::remove(s, id(n)));
 }
 
 fn life(s: &mut [u64; WORDS]) {
@@ -245,7 +258,8 @@ fn whole(buf: [u8; 32]) {
 }
 
 fn listed(r: Listed) {
-    answer(b"list", r.answer);
+    let a = r.answer;
+    answer(b"list", a);
     io::print_decimal(OUT, r.written as u64);
     io::write_all(OUT, b" ");
     io::print_decimal(OUT, r.next as u64);
@@ -404,7 +418,8 @@ fn usable(s: &[u64; WORDS], q: &[u8; 65536], a: u8, d: u8) {
 }
 
 fn shown(r: Shown) {
-    answer(b"masks", r.answer);
+    let a = r.answer;
+    answer(b"masks", a);
     let m = r.masks;
     masks(m);
 }
@@ -421,12 +436,16 @@ fn masks(m: Masks) {
 // The set bits of a mask, in decimal.
 fn bits(label: &[u8], m: Mask) {
     io::write_all(OUT, label);
+    set_bits(m);
+    io::write_all(OUT, b"\n");
+}
+
+fn set_bits(m: Mask) {
     let mut i = 0usize;
     while i < 256 {
         bit(m, (i % 256) as u8);
         i += 1;
     }
-    io::write_all(OUT, b"\n");
 }
 
 fn bit(m: Mask, i: u8) {

@@ -30,15 +30,23 @@ fn print_answers(answers: [u8; 640], n: usize) {
     let mut i = 0usize;
     while i < 640 {
         if i < n {
-            number(b"", answers[i] as u64);
+            one(answers[i]);
         }
         i += 1;
     }
 }
 
+fn one(answer: u8) {
+    number(b"", answer as u64);
+}
+
 // The moves remaining, and the masks of the devices.
 fn left(s: &[u64; WORDS], q: &[u8; 65536]) {
     number(b"remaining ", bind::remaining(s, q) as u64);
+    known(s, q);
+}
+
+fn known(s: &[u64; WORDS], q: &[u8; 65536]) {
     let mut n = 1u64;
     while n < 10 {
         device(s, q, n);
@@ -70,12 +78,16 @@ fn masks(m: Masks) {
 // The set bits of a mask, in decimal.
 fn bits(label: &[u8], m: Mask) {
     io::write_all(OUT, label);
+    set_bits(m);
+    io::write_all(OUT, b"\n");
+}
+
+fn set_bits(m: Mask) {
     let mut i = 0usize;
     while i < 256 {
         bit(m, (i % 256) as u8);
         i += 1;
     }
-    io::write_all(OUT, b"\n");
 }
 
 fn bit(m: Mask, i: u8) {

@@ -1,27 +1,24 @@
+-- `lines` is safe: the array has 64 bytes.
+-- Assumes nothing.
+use native.Mathlib.Omega.{arith}
+use mathlib.Core.Path.{sym}
+use lib.Seq.{length-take-le}
 use borrow.Author.Needs.{needs}
 use Rattle.guests.proofs.lines.Statement.{statement}
 use Rattle.guests.proofs.lines.Tie as tie
-use Rattle.guests.proofs.lines.Reads as reads
-use Rattle.guests.proofs.lines.Lts as lts
-use Rattle.io.proofs.write_all.Reads as write-all-reads
 
--- src/main.rt:121:28
 array-share-prefix-buf : tie.Need-array-share-prefix-buf
-array-share-prefix-buf c = search needs
+array-share-prefix-buf c = omega (arith, c .before .good .0)
 
--- src/main.rt:121:28
 slice-aggregate-write-all : tie.Need-slice-aggregate-write-all
-slice-aggregate-write-all c = search needs
+slice-aggregate-write-all c = sym (length-take-le _ _ (omega (arith, c .before .before .good .0)))
 
--- src/main.rt:121:9
 write-all-requires : tie.Need-write-all-requires
 write-all-requires c κs = search needs
 
--- src/main.rt:119:1
 returns : tie.Need-returns
 returns c = search needs
 
--- src/main.rt:119:1
 returns-2 : tie.Need-returns-2
 returns-2 c = search needs
 
