@@ -12,11 +12,13 @@ use rules::Masks;
 use rules::Matrix;
 use rules::Moved;
 ghost use mathlib.Core.Path.{_≡_};
-ghost use mathlib.Core.Bool.{cond, not, true, false};
-ghost use mathlib.Core.List.{List, _++_};
-ghost use Prim.Native.Nat.{_+_, _*_, _<_, min};
-ghost use lib.ListN.{length, drop};
+ghost use mathlib.Core.Bool.{not, true, false};
+ghost use mathlib.Core.List.{_++_};
+ghost use Prim.Native.Nat.{_+_, _*_, _≤_, min};
+ghost use lib.ListN.{length};
+ghost use lib.Seq.{paste};
 ghost use lib.Dec.{eqb};
+ghost use Rattle.mask.specs.Bits.{bits};
 ghost use Rattle.rules.specs.State.{queues};
 ghost use Rattle.rules.specs.Queues.{moveAnswer, remaining, movesUsed, mostMoves, usable};
 ghost use Rattle.rules.specs.Commands as Commands;
@@ -29,7 +31,7 @@ ghost use Rattle.host.specs.Masks.{withMask};
 ghost use Rattle.bind.specs.Moves.{moveBytes, sweepBytes};
 ghost use Rattle.encoding.specs.Encoding.{kindOf, configurationOf};
 ghost use Rattle.capi.specs.Numbered.{Numbered, idWith, movedNumber, bit, matrixOf, namePadded, nameLength};
-ghost use Rattle.capi.specs.Shown.{MasksShown, ListShown};
+ghost use Rattle.capi.specs.Shown.{maskBytes, MasksShown, ListShown};
 
 // Makes the lent memory a fresh record.
 #[no_mangle]
@@ -199,7 +201,8 @@ pub extern "C" fn zk_errno_name(value: u8, out: &mut [u8; 14]) -> usize
     ensures name { λ r. ⌜ now (out .exit) ≡ namePadded value ⌝ }
 {
     let a = name_of(value);
-    *out = a.bytes;
+    let bytes = a.bytes;
+    *out = bytes;
     a.len
 }
 
@@ -247,7 +250,9 @@ fn matrix_of(n: u8) -> Matrix
 }
 
 // Three masks, one after the other.
-fn put_masks(m: Masks, out: &mut [u8; 96]) {
+fn put_masks(m: Masks, out: &mut [u8; 96])
+    ensures { λ r. ⌜ now (out .exit) ≡ maskBytes (bits (m .adapters)) ++ (maskBytes (bits (m .domains)) ++ maskBytes (bits (m .controls))) ⌝ }
+{
     let adapters = m.adapters;
     let domains = m.domains;
     let controls = m.controls;
@@ -256,7 +261,11 @@ fn put_masks(m: Masks, out: &mut [u8; 96]) {
     put_mask(controls, out, 64);
 }
 
-fn put_mask(m: Mask, out: &mut [u8; 96], at: usize) {
+// The bytes of a mask, from an index on.
+fn put_mask(m: Mask, out: &mut [u8], at: usize)
+    requires { ⌜ at + 32 ≤ length (now out) ⌝ }
+    ensures { λ r. ⌜ now (out .exit) ≡ paste (now (out .entry)) at (maskBytes (bits m)) 32 ⌝ }
+{
     let b = maskbytes::to_bytes(m);
     let mut i = 0usize;
     while i < 32 {
@@ -266,7 +275,10 @@ fn put_mask(m: Mask, out: &mut [u8; 96], at: usize) {
 }
 
 // The name of the case with a value; an empty one where there is none.
-fn name_of(value: u8) -> errno::Ascii {
+fn name_of(value: u8) -> errno::Ascii
+    ensures length { λ r. ⌜ r .len ≡ nameLength value ⌝ }
+    ensures name { λ r. ⌜ r .bytes ≡ namePadded value ⌝ }
+{
     match value {
         2 => errno::name(Errno::Enoent),
         16 => errno::name(Errno::Ebusy),
