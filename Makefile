@@ -2,13 +2,16 @@
 .PHONY: run test expected
 
 run:
-	@rt check textcases >target.log 2>&1 || { cat target.log; rm -f target.log; exit 1; }
-	@rm -f target.log
-	@target/bin/textcases
+	@rt check guests >run.log 2>&1 || { cat run.log; rm -f run.log; exit 1; }
+	@rm -f run.log
+	@target/bin/guests
 
 test:
 	rt ci
 
-# The expected output of the text cases, worked out a second time by a program that shares no code with the readers.
+# The expected output of the programs, worked out a second time by Python programs that share no code with the library.
 expected:
-	@python3 tests/textcases.py | cmp - crates/textcases/stdout && echo "textcases: the expected output agrees"
+	@python3 tests/textcases.py | cmp - crates/textcases/stdout && echo "textcases: agrees"
+	@python3 tests/cases.py | cmp - crates/cases/stdout && echo "cases: agrees"
+	@python3 tests/lists.py stdin | cmp - crates/lists/stdin && echo "lists, input: agrees"
+	@python3 tests/lists.py stdout | cmp - crates/lists/stdout && echo "lists: agrees"

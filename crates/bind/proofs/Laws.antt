@@ -4,10 +4,10 @@ use Prim.Native.Nat.{ℕ, zero, suc, _+_, _-_, _*_, _/_, _%_, _≤_, _<_, min}
 use native.Mathlib.Nat.{le-refl}
 use native.Mathlib.Numerals.{add-one}
 use native.Mathlib.Omega.{arith}
-use mathlib.Core.Path.{_≡_, refl, sym, ap, ap₂, subst, _∙_, fun-ext}
+use mathlib.Core.Path.{_≡_, refl, sym, ap, _∙_, fun-ext}
 use mathlib.Core.Bool.{Bool, true, false, cond, not, _&&_}
 use mathlib.Core.List.{List}
-use lib.ListN.{length, getD, set, length-set}
+use lib.ListN.{length, getD, length-set}
 use lib.Seq.{getD-set-other}
 use lib.Dec.{eqb, ltb, leb}
 use borrow.Author.Tests.{eqb-true, eq-eqb, ne-eqb, ltb-true, ltb-false}
@@ -19,7 +19,7 @@ use Rattle.rules.specs.State.{State, HostMasks, Config, queues}
 use Rattle.rules.specs.Queues.{reserved, configured, targetOf, moved, after, due, dueAt, sumBelow, remaining, rebound, moveAnswer, move, moves, sweepFrom}
 use Rattle.rules.proofs.Products.{in-product, queue-apid}
 use Rattle.rules.proofs.Sums.{sum-more}
-use Rattle.rules.proofs.Moves.{due-le, sumFrom, sum-split, sum-all, all-due, remaining-sweep}
+use Rattle.rules.proofs.Moves.{due-le, sumFrom, sum-split, all-due, remaining-sweep}
 use Rattle.record.specs.Layout.{stateIn, hostIn, configIn, driverOf, byteOf}
 use Rattle.record.proofs.Laws.{read-rebound}
 use Rattle.bind.specs.Moves.{bytesAfter, moveBytes, movesBytes, sweepBytes}

@@ -163,8 +163,9 @@ pub fn sweep(s: &[u64; WORDS], q: &mut [u8; 65536], budget: u32) -> Swept
         left = left - n;
         k += 1;
     }
+    let made = most - left;
     Swept {
-        used: most - left,
+        used: made,
         more: false,
     }
 }
@@ -174,14 +175,14 @@ fn settle(s: &[u64; WORDS], q: &mut [u8; 65536], k: usize, n: u32)
     requires { ⌜ (k < 65536) × (n ≤ 2) ⌝ }
     ensures { λ r. ⌜ now (q .exit) ≡ movesBytes (now (s .entry)) n k (now (q .entry)) ⌝ }
 {
-    let a = Apid((k / 256 % 256) as u8);
-    let d = Apqi((k % 256) as u8);
+    let adapter = Apid((k / 256 % 256) as u8);
+    let domain = Apqi((k % 256) as u8);
     if n == 0 {
         return;
     }
-    move_queue(s, q, a, d);
+    move_queue(s, q, adapter, domain);
     if n == 1 {
         return;
     }
-    move_queue(s, q, a, d);
+    move_queue(s, q, adapter, domain);
 }

@@ -72,136 +72,52 @@ fn life(s: &mut [u64; WORDS]) {
 
 // Text is read before the device is looked for, and the device before the limit.
 fn texts(s: &mut [u64; WORDS]) {
-    answer(
-        b"assign 3 adapter 08",
-        assign::assign(s, Kind::Adapter, id(3), b"08"),
-    );
-    answer(
-        b"assign 3 adapter 256",
-        assign::assign(s, Kind::Adapter, id(3), b"256"),
-    );
-    answer(
-        b"assign 1 adapter 256",
-        assign::assign(s, Kind::Adapter, id(1), b"256"),
-    );
-    answer(
-        b"assign 1 adapter 0xff",
-        assign::assign(s, Kind::Adapter, id(1), b"0xff\n"),
-    );
-    answer(
-        b"assign 1 adapter 255",
-        assign::assign(s, Kind::Adapter, id(1), b"255"),
-    );
-    answer(
-        b"unassign 1 adapter 0377",
-        assign::unassign(s, Kind::Adapter, id(1), b"0377"),
-    );
-    answer(
-        b"unassign 1 adapter 0377",
-        assign::unassign(s, Kind::Adapter, id(1), b"0377"),
-    );
-    answer(
-        b"unassign 1 control 256",
-        assign::unassign(s, Kind::Control, id(1), b"256"),
-    );
-    answer(
-        b"unassign 3 control 256",
-        assign::unassign(s, Kind::Control, id(3), b"256"),
-    );
-    answer(
-        b"unassign 3 control x",
-        assign::unassign(s, Kind::Control, id(3), b"x"),
-    );
-    answer(b"apmask 0x", host::set_apmask(s, b"0x"));
-    answer(b"aqmask +1,", host::set_aqmask(s, b"+1,"));
+    adapter(s, 3, b"08");
+    adapter(s, 3, b"256");
+    adapter(s, 1, b"256");
+    adapter(s, 1, b"0xff\n");
+    adapter(s, 1, b"255");
+    no_adapter(s, 1, b"0377");
+    no_adapter(s, 1, b"0377");
+    no_control(s, 1, b"256");
+    no_control(s, 3, b"256");
+    no_control(s, 3, b"x");
+    apmask(s, b"0x");
+    aqmask(s, b"+1,");
 }
 
 // Queues that are reserved for the host (settings 7 and 11).
 fn reserved(s: &mut [u64; WORDS]) {
-    answer(
-        b"assign 1 adapter 5",
-        assign::assign(s, Kind::Adapter, id(1), b"5"),
-    );
-    answer(
-        b"assign 1 domain 4",
-        assign::assign(s, Kind::Domain, id(1), b"4"),
-    );
-    answer(b"apmask -5,-6", host::set_apmask(s, b"-5,-6\n"));
-    answer(
-        b"assign 1 domain 4",
-        assign::assign(s, Kind::Domain, id(1), b"4"),
-    );
-    answer(b"apmask +5", host::set_apmask(s, b"+5"));
-    answer(
-        b"aqmask -4,-0x47,-0xab,-0xff",
-        host::set_aqmask(s, b"-4,-0x47,-0xab,-0xff"),
-    );
-    answer(b"apmask +5", host::set_apmask(s, b"+5"));
-    answer(b"aqmask +4", host::set_aqmask(s, b"+4"));
-    answer(b"apmask -5", host::set_apmask(s, b"-5"));
+    adapter(s, 1, b"5");
+    domain(s, 1, b"4");
+    apmask(s, b"-5,-6\n");
+    domain(s, 1, b"4");
+    apmask(s, b"+5");
+    aqmask(s, b"-4,-0x47,-0xab,-0xff");
+    apmask(s, b"+5");
+    aqmask(s, b"+4");
+    apmask(s, b"-5");
 }
 
 // Queues that are assigned to another device, open or not, configured or not (settings 6 and 12).
 fn in_use(s: &mut [u64; WORDS]) {
-    answer(
-        b"assign 2 adapter 5",
-        assign::assign(s, Kind::Adapter, id(2), b"5"),
-    );
-    answer(
-        b"assign 2 domain 4",
-        assign::assign(s, Kind::Domain, id(2), b"4"),
-    );
-    answer(
-        b"assign 2 domain 0x47",
-        assign::assign(s, Kind::Domain, id(2), b"0x47"),
-    );
-    answer(
-        b"assign 1 domain 0x47",
-        assign::assign(s, Kind::Domain, id(1), b"0x47"),
-    );
-    answer(
-        b"assign 1 control 0x47",
-        assign::assign(s, Kind::Control, id(1), b"0x47"),
-    );
-    answer(
-        b"assign 2 control 0x47",
-        assign::assign(s, Kind::Control, id(2), b"0x47"),
-    );
-    answer(
-        b"unassign 2 domain 0x47",
-        assign::unassign(s, Kind::Domain, id(2), b"0x47"),
-    );
-    answer(
-        b"unassign 2 adapter 5",
-        assign::unassign(s, Kind::Adapter, id(2), b"5"),
-    );
-    answer(
-        b"assign 2 domain 4",
-        assign::assign(s, Kind::Domain, id(2), b"4"),
-    );
-    answer(
-        b"assign 2 domain 6",
-        assign::assign(s, Kind::Domain, id(2), b"6"),
-    );
-    answer(b"apmask +6", host::set_apmask(s, b"+6"));
-    answer(
-        b"assign 2 adapter 6",
-        assign::assign(s, Kind::Adapter, id(2), b"6"),
-    );
-    answer(
-        b"assign 2 adapter 5",
-        assign::assign(s, Kind::Adapter, id(2), b"5"),
-    );
-    answer(b"apmask -6", host::set_apmask(s, b"-6"));
+    adapter(s, 2, b"5");
+    domain(s, 2, b"4");
+    domain(s, 2, b"0x47");
+    domain(s, 1, b"0x47");
+    control(s, 1, b"0x47");
+    control(s, 2, b"0x47");
+    no_domain(s, 2, b"0x47");
+    no_adapter(s, 2, b"5");
+    domain(s, 2, b"4");
+    domain(s, 2, b"6");
+    apmask(s, b"+6");
+    adapter(s, 2, b"6");
+    adapter(s, 2, b"5");
+    apmask(s, b"-6");
     answer(b"remove 2", devices::remove(s, id(2)));
-    answer(
-        b"assign 1 adapter 6",
-        assign::assign(s, Kind::Adapter, id(1), b"6"),
-    );
-    answer(
-        b"assign 1 domain 0xab",
-        assign::assign(s, Kind::Domain, id(1), b"0xab"),
-    );
+    adapter(s, 1, b"6");
+    domain(s, 1, b"0xab");
 }
 
 // A configuration whose masks go above a limit is refused.
@@ -237,14 +153,14 @@ fn moving(s: &mut [u64; WORDS], q: &mut [u8; 65536]) {
     moved(b"move 5 4", bind::move_queue(s, q, Apid(5), Apqi(4)));
     moved(b"move 7 4", bind::move_queue(s, q, Apid(7), Apqi(4)));
     answer(b"remove 1", devices::remove(s, id(1)));
-    answer(b"apmask +5", host::set_apmask(s, b"+5"));
-    answer(b"aqmask +4", host::set_aqmask(s, b"+4"));
+    apmask(s, b"+5");
+    aqmask(s, b"+4");
     remaining(s, q);
     moved(b"move 5 4", bind::move_queue(s, q, Apid(5), Apqi(4)));
     moved(b"move 5 4", bind::move_queue(s, q, Apid(5), Apqi(4)));
     moved(b"move 5 4", bind::move_queue(s, q, Apid(5), Apqi(4)));
     remaining(s, q);
-    answer(b"aqmask -4", host::set_aqmask(s, b"-4"));
+    aqmask(s, b"-4");
     remaining(s, q);
 }
 
@@ -261,31 +177,13 @@ fn sweeping(s: &mut [u64; WORDS], q: &mut [u8; 65536]) {
 // A device's masks, assigned and as its guest gets them (settings 9 and 10).
 fn guests(s: &mut [u64; WORDS], q: &mut [u8; 65536]) {
     answer(b"create 1", devices::create(s, id(1)));
-    answer(b"apmask -5", host::set_apmask(s, b"-5"));
-    answer(
-        b"assign 1 adapter 5",
-        assign::assign(s, Kind::Adapter, id(1), b"5"),
-    );
-    answer(
-        b"assign 1 adapter 6",
-        assign::assign(s, Kind::Adapter, id(1), b"6"),
-    );
-    answer(
-        b"assign 1 domain 4",
-        assign::assign(s, Kind::Domain, id(1), b"4"),
-    );
-    answer(
-        b"assign 1 domain 0xab",
-        assign::assign(s, Kind::Domain, id(1), b"0xab"),
-    );
-    answer(
-        b"assign 1 control 71",
-        assign::assign(s, Kind::Control, id(1), b"71"),
-    );
-    answer(
-        b"assign 1 control 72",
-        assign::assign(s, Kind::Control, id(1), b"72"),
-    );
+    apmask(s, b"-5");
+    adapter(s, 1, b"5");
+    adapter(s, 1, b"6");
+    domain(s, 1, b"4");
+    domain(s, 1, b"0xab");
+    control(s, 1, b"71");
+    control(s, 1, b"72");
     swept(b"sweep", bind::sweep(s, q, 131072));
     both(s, q);
     usable(s, q, 6, 171);
@@ -353,7 +251,7 @@ fn listed(r: Listed) {
 // ---- arguments
 
 fn id(n: u64) -> Id {
-    Id { hi: 1999, lo: n }
+    Id { hi: 0, lo: n }
 }
 
 fn one(n: u8) -> Mask {
@@ -366,6 +264,65 @@ fn config(adapters: Mask, domains: Mask, controls: Mask) -> Configuration {
         domains: domains,
         controls: controls,
         types: [10u8; 256],
+    }
+}
+
+// ---- commands with a text
+
+fn adapter(s: &mut [u64; WORDS], n: u64, text: &[u8]) {
+    label(b"assign ", n, b" adapter ", text);
+    answer(b"", assign::assign(s, Kind::Adapter, id(n), text));
+}
+
+fn domain(s: &mut [u64; WORDS], n: u64, text: &[u8]) {
+    label(b"assign ", n, b" domain ", text);
+    answer(b"", assign::assign(s, Kind::Domain, id(n), text));
+}
+
+fn control(s: &mut [u64; WORDS], n: u64, text: &[u8]) {
+    label(b"assign ", n, b" control ", text);
+    answer(b"", assign::assign(s, Kind::Control, id(n), text));
+}
+
+fn no_adapter(s: &mut [u64; WORDS], n: u64, text: &[u8]) {
+    label(b"unassign ", n, b" adapter ", text);
+    answer(b"", assign::unassign(s, Kind::Adapter, id(n), text));
+}
+
+fn no_domain(s: &mut [u64; WORDS], n: u64, text: &[u8]) {
+    label(b"unassign ", n, b" domain ", text);
+    answer(b"", assign::unassign(s, Kind::Domain, id(n), text));
+}
+
+fn no_control(s: &mut [u64; WORDS], n: u64, text: &[u8]) {
+    label(b"unassign ", n, b" control ", text);
+    answer(b"", assign::unassign(s, Kind::Control, id(n), text));
+}
+
+fn apmask(s: &mut [u64; WORDS], text: &[u8]) {
+    io::write_all(OUT, b"apmask ");
+    body(text);
+    answer(b"", host::set_apmask(s, text));
+}
+
+fn aqmask(s: &mut [u64; WORDS], text: &[u8]) {
+    io::write_all(OUT, b"aqmask ");
+    body(text);
+    answer(b"", host::set_aqmask(s, text));
+}
+
+fn label(word: &[u8], n: u64, kind: &[u8], text: &[u8]) {
+    io::write_all(OUT, word);
+    io::print_decimal(OUT, n);
+    io::write_all(OUT, kind);
+    body(text);
+}
+
+// A text without its final newline.
+fn body(text: &[u8]) {
+    let n = number::body_len(text);
+    if n <= text.len() {
+        io::write_all(OUT, &text[..n]);
     }
 }
 

@@ -9,18 +9,17 @@ use rules::Answer;
 use rules::Id;
 use rules::Masks;
 use rules::Matrix;
+ghost use Prim.Native.Nat.{_+_, _≤_, _<_};
 ghost use mathlib.Core.Path.{_≡_};
-ghost use mathlib.Core.Bool.{cond};
-ghost use mathlib.Core.List.{List, _++_};
-ghost use lib.ListN.{length, drop};
-ghost use lib.Dec.{ltb, eqb};
+ghost use mathlib.Core.List.{_++_};
+ghost use lib.ListN.{length, take, drop};
+ghost use Rattle.errno.specs.Errno.{numberOf};
 ghost use Rattle.mask.specs.Bits.{bits};
-ghost use Rattle.rules.specs.State.{inProduct, places};
-ghost use Rattle.rules.specs.Queues.{matrixAdapters, matrixDomains};
-ghost use Rattle.rules.specs.Commands.{answered, placeOf};
-ghost use Rattle.record.specs.Layout.{stateIn, deviceIn};
-ghost use Rattle.listing.specs.Lines.{linesOf, fitting, nextPlace, queuesAt};
-ghost use Rattle.listing.specs.Listed.{Listing, matrix};
+ghost use Rattle.rules.specs.State.{inProduct, queues};
+ghost use Rattle.rules.specs.Commands.{answered};
+ghost use Rattle.listing.specs.Lines.{hexDigit, lineOf, queuesAt};
+ghost use Rattle.listing.specs.Written.{Written};
+ghost use Rattle.listing.specs.Listed.{Listing};
 
 // What a listing answers: bytes written and the next place. A refused one wrote nothing and stays at its place.
 pub struct Listed {
@@ -62,7 +61,9 @@ pub fn lines(m: Masks) -> u32
     adapters.count() * domains.count()
 }
 
-fn refused(e: Errno, place: usize) -> Listed {
+fn refused(e: Errno, place: usize) -> Listed
+    ensures { λ r. ⌜ (answered (r .answer) ≡ numberOf e) × (r .written ≡ 0) × (r .next ≡ place) ⌝ }
+{
     Listed {
         answer: Answer::Refused(e),
         written: 0,
@@ -71,7 +72,11 @@ fn refused(e: Errno, place: usize) -> Listed {
 }
 
 // Writes the lines of a product's queues from a place on.
-fn write(adapters: Mask, domains: Mask, place: usize, buf: &mut [u8]) -> Listed {
+fn write(adapters: Mask, domains: Mask, place: usize, buf: &mut [u8]) -> Listed
+    requires { ⌜ 8 ≤ length (now buf) ⌝ }
+    ensures answer { λ r. ⌜ answered (r .answer) ≡ 0 ⌝ }
+    ensures lines { λ r. ⌜ Written (inProduct (bits adapters) (bits domains)) place (now (buf .entry)) (now (buf .exit)) (r .written) (r .next) ⌝ }
+{
     let mut k = place;
     let mut at = 0usize;
     let mut last = 0usize;
@@ -97,7 +102,10 @@ fn write(adapters: Mask, domains: Mask, place: usize, buf: &mut [u8]) -> Listed 
     }
 }
 
-fn in_product(adapters: Mask, domains: Mask, k: usize) -> bool {
+fn in_product(adapters: Mask, domains: Mask, k: usize) -> bool
+    requires { ⌜ k < queues ⌝ }
+    ensures { λ r. ⌜ r ≡ inProduct (bits adapters) (bits domains) k ⌝ }
+{
     if adapters.has((k / 256 % 256) as u8) {
         domains.has((k % 256) as u8)
     } else {
@@ -106,7 +114,10 @@ fn in_product(adapters: Mask, domains: Mask, k: usize) -> bool {
 }
 
 // Writes the line of queue k at an index of the buffer.
-fn put_line(buf: &mut [u8], at: usize, k: usize) {
+fn put_line(buf: &mut [u8], at: usize, k: usize)
+    requires { ⌜ (at + 8 ≤ length (now buf)) × (k < queues) ⌝ }
+    ensures { λ r. ⌜ now (buf .exit) ≡ take at (now (buf .entry)) ++ lineOf k ++ drop (at + 8) (now (buf .entry)) ⌝ }
+{
     let a = (k / 256 % 256) as u8;
     let d = (k % 256) as u8;
     buf[at] = hex_digit(a / 16);
@@ -119,6 +130,9 @@ fn put_line(buf: &mut [u8], at: usize, k: usize) {
     buf[at + 7] = b'\n';
 }
 
-fn hex_digit(n: u8) -> u8 {
+fn hex_digit(n: u8) -> u8
+    requires { ⌜ n < 16 ⌝ }
+    ensures { λ r. ⌜ r ≡ hexDigit n ⌝ }
+{
     if n < 10 { b'0' + n } else { b'a' - 10 + n % 16 }
 }

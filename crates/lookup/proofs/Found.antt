@@ -3,13 +3,14 @@
 use Prim.Native.Nat.{ℕ, _≤_, _<_}
 use mathlib.Core.Bool.{cond}
 use mathlib.Core.List.{List}
-use mathlib.Core.Path.{_≡_, sym, subst}
-use lib.Dec.{ltb}
+use mathlib.Core.Path.{_≡_, sym, ap, subst, _∙_}
+use lib.Dec.{eqb, ltb}
 use Rattle.errno.specs.Outcome.{Outcome, granted, refused}
+use Rattle.rules.specs.declared.Answer.{Answer}
 use Rattle.rules.specs.declared.Answer.the-variants.{Done}
 use Rattle.rules.specs.declared.Id.{Id}
 use Rattle.rules.specs.State.{State, places}
-use Rattle.rules.specs.Commands.{placeOf, onDevice}
+use Rattle.rules.specs.Commands.{placeOf, onDevice, answered, errnoOf, stateAfter}
 use Rattle.record.specs.Carried.{Carried}
 use Rattle.record.specs.Layout.{deviceIn, stateIn}
 use Rattle.record.proofs.Laws.{cond-below, cond-past, granted-carried}
@@ -32,3 +33,13 @@ pub done-carried : {rule : State → Outcome State} {effect ws after : List ℕ}
     → ((qs : List ℕ) → rule (stateIn ws qs) ≡ granted (t qs)) → ((qs : List ℕ) → stateIn effect qs ≡ t qs) → Carried rule effect ws after Done
 done-carried {rule} {effect} {ws} {after} t e h k =
     subst (λ (l : List ℕ). Carried rule effect ws l Done) (sym e) (granted-carried rule effect ws t h k)
+
+-- a rule that comes to the same as another
+pub carried-as : {rule rule′ : State → Outcome State} {effect effect′ ws after : List ℕ} {r : Answer}
+    → ((qs : List ℕ) → rule′ (stateIn ws qs) ≡ rule (stateIn ws qs)) → effect′ ≡ effect → Carried rule effect ws after r → Carried rule′ effect′ ws after r
+carried-as {rule} {rule′} {effect} {effect′} {ws} {after} {r} h e c =
+    record {
+      answer = λ qs. c .answer qs ∙ ap errnoOf (sym (h qs));
+      state = λ qs. c .state qs ∙ ap (stateAfter (stateIn ws qs)) (sym (h qs));
+      words = c .words ∙ ap (λ (l : List ℕ). cond (eqb (answered r) 0) l ws) (sym e);
+    }

@@ -1,11 +1,9 @@
 -- `due_at` meets its contract.
 -- Assumes nothing.
-use Prim.Native.Nat.{_+_, _*_, _/_, _%_}
-use native.Mathlib.Omega.{arith}
-use mathlib.Core.Path.{_≡_, sym, ap, ap₂, _∙_}
+use mathlib.Core.Path.{ap₂, _∙_}
 use denote.Ref.{now}
 use borrow.Author.Needs.{needs}
-use Rattle.rules.specs.Queues.{targetOf, due}
+use Rattle.rules.specs.Queues.{due}
 use Rattle.bind.proofs.Laws.{due-split}
 use Rattle.bind.proofs.due_at.Statement.{statement}
 use Rattle.bind.proofs.due_at.Tie as tie

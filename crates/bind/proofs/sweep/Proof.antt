@@ -79,8 +79,8 @@ loop-again c =
           (sweep-goes-on ws rs 65536 most (l .k) (l .left) (l .q) (l .inv .1) (omega arith) m (c .before .before .before .before .due-at .ensures) (omega arith)),
     )
 
-sub-t18 : tie.Need-sub-t18 Inv-loop μ-loop
-sub-t18 c = omega (arith, c .before .before .before .loop .inv .1 .made)
+sub-made : tie.Need-sub-made Inv-loop μ-loop
+sub-made c = omega (arith, c .before .before .before .loop .inv .1 .made)
 
 returns-2 : tie.Need-returns-2 Inv-loop μ-loop
 unfolding movesUsed
@@ -113,5 +113,5 @@ sweep-spec =
     add-k
     loop-less
     loop-again
-    sub-t18
+    sub-made
     returns-2)

@@ -1,90 +1,71 @@
+-- `word_at` meets its contract.
+-- Assumes nothing.
+use native.Mathlib.Omega.{arith}
+use Rattle.encoding.specs.Encoding.{wordAt}
 use borrow.Author.Needs.{needs}
 use Rattle.encoding.proofs.word_at.Statement.{statement}
 use Rattle.encoding.proofs.word_at.Tie as tie
-use Rattle.encoding.proofs.word_at.Reads as reads
-use Rattle.encoding.proofs.word_at.Lts as lts
-use Rattle.encoding.proofs.byte_at.Reads as byte-at-reads
-use Rattle.encoding.proofs.half.Reads as half-reads
 
--- src/lib.rt:76:9
 byte-at-requires : tie.Need-byte-at-requires
 byte-at-requires c κs = search needs
 
--- src/lib.rt:77:20
 add-byte-at : tie.Need-add-byte-at
 add-byte-at c = search needs
 
--- src/lib.rt:77:9
 byte-at-requires-2 : tie.Need-byte-at-requires-2
 byte-at-requires-2 c κs = search needs
 
--- src/lib.rt:78:20
 add-byte-at-2 : tie.Need-add-byte-at-2
 add-byte-at-2 c = search needs
 
--- src/lib.rt:78:9
 byte-at-requires-3 : tie.Need-byte-at-requires-3
 byte-at-requires-3 c κs = search needs
 
--- src/lib.rt:79:20
 add-byte-at-3 : tie.Need-add-byte-at-3
 add-byte-at-3 c = search needs
 
--- src/lib.rt:79:9
 byte-at-requires-4 : tie.Need-byte-at-requires-4
 byte-at-requires-4 c κs = search needs
 
--- src/lib.rt:75:9
 half-requires : tie.Need-half-requires
 half-requires c κs = search needs
 
--- src/lib.rt:82:20
 add-byte-at-4 : tie.Need-add-byte-at-4
 add-byte-at-4 c = search needs
 
--- src/lib.rt:82:9
 byte-at-requires-5 : tie.Need-byte-at-requires-5
 byte-at-requires-5 c κs = search needs
 
--- src/lib.rt:83:20
 add-byte-at-5 : tie.Need-add-byte-at-5
 add-byte-at-5 c = search needs
 
--- src/lib.rt:83:9
 byte-at-requires-6 : tie.Need-byte-at-requires-6
 byte-at-requires-6 c κs = search needs
 
--- src/lib.rt:84:20
 add-byte-at-6 : tie.Need-add-byte-at-6
 add-byte-at-6 c = search needs
 
--- src/lib.rt:84:9
 byte-at-requires-7 : tie.Need-byte-at-requires-7
 byte-at-requires-7 c κs = search needs
 
--- src/lib.rt:85:20
 add-byte-at-7 : tie.Need-add-byte-at-7
 add-byte-at-7 c = search needs
 
--- src/lib.rt:85:9
 byte-at-requires-8 : tie.Need-byte-at-requires-8
 byte-at-requires-8 c κs = search needs
 
--- src/lib.rt:81:9
 half-requires-2 : tie.Need-half-requires-2
 half-requires-2 c κs = search needs
 
--- src/lib.rt:87:5
 mul-result : tie.Need-mul-result
 mul-result c = search needs
 
--- src/lib.rt:87:5
 add-result : tie.Need-add-result
 add-result c = search needs
 
--- src/lib.rt:71:1
 returns : tie.Need-returns
-returns c = search needs
+unfolding wordAt
+returns c = omega arith
 
 pub word-at-spec : {M : Type 1} → statement M
 word-at-spec =
