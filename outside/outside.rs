@@ -907,10 +907,11 @@ impl Run {
             6 => *self.random.pick(&[65_534, 65_535, 65_536, 65_537, usize::MAX / 8, usize::MAX - 1, usize::MAX]),
             _ => self.random.below(256) as usize * 256,
         };
-        let length = match self.random.below(16) {
-            0 => self.random.below(8) as usize,
-            1..=9 => 8 + self.random.below(60) as usize,
-            10..=14 => self.random.below(4_096) as usize,
+        let length = match self.random.below(64) {
+            0..=4 => self.random.below(8) as usize,
+            5..=39 => 8 + self.random.below(60) as usize,
+            40..=62 => self.random.below(4_096) as usize,
+            // enough for 65,536 lines, or nearly
             _ => 524_280 + self.random.below(20) as usize,
         };
         self.view_list(id, matrix, place, length)?;
@@ -1317,6 +1318,10 @@ impl Run {
     fn random_call(&mut self, pool: &Pool) -> Call {
         let random = &mut self.random;
         let id = pool.id(random, &self.record);
+        // with few devices there is little to meet
+        if self.record.devices.iter().filter(|v| v.present != 0).count() < 3 && random.one_in(3) {
+            return Call::Create(*random.pick(&pool.ids));
+        }
         match random.below(1_000) {
             0..=59 => Call::Create(*random.pick(&pool.ids)),
             60..=84 => Call::Remove(id),
@@ -1401,11 +1406,13 @@ impl Run {
         Ok(())
     }
 
-    /// Everything that can be asked, of every id.
+    /// Everything that can be asked, of every device, and of an id that may be none.
     fn view_all(&mut self, pool: &Pool) -> Result<(), String> {
         self.view_remaining()?;
-        for id in &pool.ids {
-            self.view_device(id, pool, 24)?;
+        let mut ids: Vec<Id> = self.record.devices.iter().filter(|v| v.present != 0).map(|v| v.id).collect();
+        ids.push(*self.random.pick(&pool.ids));
+        for id in ids {
+            self.view_device(&id, pool, 24)?;
         }
         let value = self.random.next() as u8;
         self.view_name(value)
@@ -1423,13 +1430,15 @@ impl Run {
                 self.random_step(&pool)?;
                 self.view_all(&pool)?;
             }
-            // once for each record: every queue of one device, and a listing from end to end
+            // listings of one device from end to end, and in a few records all its queues, as each can cost 65,536 turns
             let id = pool.id(&mut self.random, &self.record);
-            for queue in 0..QUEUES {
-                self.view_usable(&id, (queue / 256) as u8, (queue % 256) as u8)?;
-            }
             for matrix in [0, 1] {
                 self.walk_listing(&id, matrix)?;
+            }
+            if self.fresh + self.handed_in <= 4 {
+                for queue in 0..QUEUES {
+                    self.view_usable(&id, (queue / 256) as u8, (queue % 256) as u8)?;
+                }
             }
         }
         Ok(self.steps - begin)
@@ -1733,8 +1742,8 @@ fn main() {
     println!("  moves: {idle} idle, {released} released, {host} bound to host, {passthrough} bound to passthrough");
     println!("  sweeps: {}, of {} moves", run.sweeps, run.swept);
     println!("  after every step: the answer, {WORDS} words, {QUEUES} drivers, each buffer lent, {EDGE} guard places on either side");
-    println!("  full phase, after every step: the remainder, and of every id both matrices' masks, two listings and 24 queues");
-    println!("  long phase, after every step: one queue; after every {SAMPLE}th: the remainder, and the same of one id with 8 queues");
+    println!("  full phase, after every step: the remainder, and of every device (and one id more) both matrices' masks, two listings and 24 queues");
+    println!("  long phase, after every step: one queue; after every {SAMPLE}th: the remainder, and of one device the same with 8 queues");
     println!("  so asked: {} masks, listings, names and remainders, and {} queues", run.views, run.usables);
     let missing: Vec<&str> = NAMES.iter().filter(|(v, _)| run.refused[*v as usize] == 0).map(|(_, name)| *name).collect();
     if !missing.is_empty() {
