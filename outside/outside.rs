@@ -1465,7 +1465,7 @@ impl Run {
         Ok(self.steps - begin)
     }
 
-    /// Each limit of either kind: what is at it, below it and above it.
+    /// Each limit of either kind, what is at it, below it and above it; and the largest budget of a sweep.
     fn limits_phase(&mut self) -> Result<u64, String> {
         self.phase = "limits";
         let begin = self.steps;
@@ -1502,6 +1502,16 @@ impl Run {
                     }
                 }
             }
+        }
+        for budget in [0, 1, 131_070, 131_071, 131_072, 131_073, 1 << 31, u32::MAX] {
+            // every queue goes from host to passthrough
+            let all = [[255; 96].as_slice(), &[10; 256]].concat();
+            for call in [Call::Fresh(255, 255), Call::Configure(all), Call::Sweep(u32::MAX), Call::Apmask(b"0x0".to_vec())] {
+                self.call(&call)?;
+            }
+            equal("remaining", self.view_remaining()?, 131_072)?;
+            let used = self.call(&Call::Sweep(budget))?;
+            equal("moves used", used, budget.min(131_072))?;
         }
         Ok(self.steps - begin)
     }
