@@ -2,13 +2,46 @@
 .PHONY: run test expected
 
 run:
-	@rt check textcases >target.log 2>&1 || { cat target.log; rm -f target.log; exit 1; }
-	@rm -f target.log
-	@target/bin/textcases
+	@rt check guests >run.log 2>&1 || { cat run.log; rm -f run.log; exit 1; }
+	@rm -f run.log
+	@target/bin/guests
 
 test:
 	rt ci
 
-# The expected output of the text cases, worked out a second time by a program that shares no code with the readers.
+# The expected output of the programs, worked out a second time by Python programs that share no code with the library.
 expected:
-	@python3 tests/textcases.py | cmp - crates/textcases/stdout && echo "textcases: the expected output agrees"
+	@python3 tests/textcases.py | cmp - crates/textcases/stdout && echo "textcases: agrees"
+	@python3 tests/cases.py | cmp - crates/cases/stdout && echo "cases: agrees"
+	@python3 tests/lists.py stdin | cmp - crates/lists/stdin && echo "lists, input: agrees"
+	@python3 tests/lists.py stdout | cmp - crates/lists/stdout && echo "lists: agrees"
+
+# What follows is outside of the proof and links the static library, which is proved first where that is not done yet.
+.PHONY: library outside bench example
+SEED = 1
+SECONDS = 120
+LINK = -L native=target/staticlib -l static=capi
+
+library:
+	rt staticlib capi
+
+# The library beside a second implementation of the requirements, on random commands.
+outside: library
+	@mkdir -p target/outside
+	rustc --edition 2021 -O $(LINK) -o target/outside/outside outside/outside.rs
+	target/outside/outside $(SEED) $(SECONDS)
+
+# The library beside an ordinary Rust program, for speed.
+bench: library
+	@mkdir -p target/bench
+	rustc --edition 2021 -C opt-level=3 $(LINK) -o target/bench/bench bench/bench.rs
+	target/bench/bench
+
+# A C program over the library, held to its expected output; the header is C++ too.
+example: library
+	@mkdir -p target/example-c
+	c++ -Wall -Wextra -pedantic -Werror -fsyntax-only -x c++ include/zokormendu.h
+	cc -std=c11 -Wall -Wextra -pedantic -Werror -O2 -Iinclude -o target/example-c/guests example-c/guests.c target/staticlib/libcapi.a
+	@target/example-c/guests >target/example-c/guests.out
+	@cat target/example-c/guests.out
+	@diff example-c/guests.expected target/example-c/guests.out && echo "example: agrees"

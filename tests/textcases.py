@@ -89,4 +89,5 @@ for t in (b"0x4", b"0xa1\n", b"+1", b"-0x9,+07\n"):
             s = t[:place] + bytes([b]) + t[place + 1:]
             if mask(s, FULL) is not None:
                 lines.append(f"{place} {b} {mask_outcome(s, FULL)}")
-print("\n".join(lines))
+if __name__ == "__main__":
+    print("\n".join(lines))

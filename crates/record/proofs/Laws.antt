@@ -677,7 +677,7 @@ hostWords zs a d = putFour (limitWords zs a d) apmaskAt allOnes
 abbrev freshOver : List ℕ → ℕ → ℕ → List ℕ
 freshOver zs a d = putFour (hostWords zs a d) aqmaskAt allOnes
 
-zero-at : (n q : ℕ) → getD {A = ℕ} (replicate n 0) q 0 ≡ 0
+pub zero-at : (n q : ℕ) → getD {A = ℕ} (replicate n 0) q 0 ≡ 0
 zero-at zero q = refl
 zero-at (suc n) zero = refl
 zero-at (suc n) (suc q) = zero-at n q

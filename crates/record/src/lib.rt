@@ -11,7 +11,7 @@ use rules::Kind;
 ghost use mathlib.Core.Path.{_≡_};
 ghost use Prim.Native.Nat.{_+_, _*_, _<_, min};
 ghost use mathlib.Core.Bool.{cond};
-ghost use lib.ListN.{getD, set};
+ghost use lib.ListN.{getD, set, replicate};
 ghost use Rattle.mask.specs.Bits.{bits};
 ghost use Rattle.rules.specs.Commands.{numbersOf};
 ghost use Rattle.record.specs.Held.{Held, Small};
@@ -264,11 +264,28 @@ pub fn put_fresh(s: &mut [u64; WORDS], adapter: u8, domain: u8)
     let ones = Mask {
         words: [u64::MAX; 4],
     };
-    *s = [0u64; WORDS];
+    put_nothing(s);
     s[0] = adapter as u64;
     s[1] = domain as u64;
     put_mask(s, 2, ones);
     put_mask(s, 6, ones);
+}
+
+// No device and an empty configuration, with hardware type 0 for all 256 adapters.
+fn put_nothing(s: &mut [u64; WORDS])
+    ensures { λ r. ⌜ now (s .exit) ≡ replicate 406 0 ⌝ }
+{
+    *s = [0u64; WORDS];
+    let none = Mask { words: [0u64; 4] };
+    put_configuration(
+        s,
+        Configuration {
+            adapters: none,
+            domains: none,
+            controls: none,
+            types: [0u8; 256],
+        },
+    );
 }
 
 pub fn driver(q: &[u8; 65536], a: Apid, d: Apqi) -> Driver

@@ -3,10 +3,14 @@
 use Prim.Native.Nat.{ℕ}
 use mathlib.Core.Path.{ap, _∙_}
 use mathlib.Core.List.{List, [], _∷_}
+use lib.ListN.{set}
 use borrow.Author.Needs.{needs}
 use Rattle.record.specs.Layout.{putFour, ones, freshWords}
 use Rattle.record.proofs.put_fresh.Statement.{statement}
 use Rattle.record.proofs.put_fresh.Tie as tie
+
+put-nothing-requires : tie.Need-put-nothing-requires
+put-nothing-requires c κs = search needs
 
 element-write-s : tie.Need-element-write-s
 element-write-s c = search needs
@@ -23,9 +27,12 @@ put-mask-requires-2 c κs = search needs
 returns : tie.Need-returns
 unfolding freshWords
 returns c =
-    c .put-mask2 .ensures ∙ ap (λ (l : List ℕ). putFour l 6 (ones ∷ ones ∷ ones ∷ ones ∷ [])) (c .before .before .put-mask .ensures)
+    c .put-mask2 .ensures
+    ∙ ap (λ (l : List ℕ). putFour l 6 (ones ∷ ones ∷ ones ∷ ones ∷ [])) (c .before .before .put-mask .ensures)
+    ∙ ap (λ (l : List ℕ). putFour (putFour (set (set l 0 (c .before .before .before .before .before .before .args .adapter)) 1 (c .before .before .before .before .before .before .args .domain)) 2 (ones ∷ ones ∷ ones ∷ ones ∷ [])) 6 (ones ∷ ones ∷ ones ∷ ones ∷ []))
+    (c .before .before .before .before .put-nothing .ensures)
 
 pub put-fresh-spec : {M : Type 1} → statement M
 put-fresh-spec =
     tie.close
-    (tie.spec element-write-s element-write-s-2 put-mask-requires put-mask-requires-2 returns)
+    (tie.spec put-nothing-requires element-write-s element-write-s-2 put-mask-requires put-mask-requires-2 returns)

@@ -1,0 +1,668 @@
+//! The static library beside an ordinary Rust program with four 64-bit words a mask, on the same inputs in one process.
+//! Both give the same answers, which is asserted. Each line gives the best of several rounds, in nanoseconds a call.
+//! Buffers are not cleared between calls.
+
+use std::hint::black_box;
+use std::time::{Duration, Instant};
+
+const WORDS: usize = 406;
+const QUEUES: usize = 65_536;
+const LIST_BYTES: usize = 8 * QUEUES;
+const MOST_MOVES: u32 = 131_072;
+
+extern "C" {
+    fn zk_fresh(words: *mut u64, drivers: *mut u8, adapter: u64, domain: u64) -> u8;
+    fn zk_create(words: *mut u64, hi: u64, lo: u64) -> u8;
+    fn zk_assign(words: *mut u64, hi: u64, lo: u64, kind: u8, text: *const u8, length: usize) -> u8;
+    fn zk_set_apmask(words: *mut u64, text: *const u8, length: usize) -> u8;
+    fn zk_set_aqmask(words: *mut u64, text: *const u8, length: usize) -> u8;
+    fn zk_configure(words: *mut u64, drivers: *mut u8, configuration: *const u8) -> u8;
+    fn zk_sweep(words: *const u64, drivers: *mut u8, budget: u32, more: *mut u8) -> u32;
+    fn zk_masks(words: *const u64, drivers: *const u8, hi: u64, lo: u64, matrix: u8, masks: *mut u8) -> u8;
+    fn zk_list(
+        words: *const u64,
+        drivers: *const u8,
+        hi: u64,
+        lo: u64,
+        matrix: u8,
+        place: usize,
+        buffer: *mut u8,
+        length: usize,
+        written: *mut usize,
+        next: *mut usize,
+    ) -> u8;
+}
+
+// ---------------------------------------------------------------------------------------------------------------------
+// The ordinary program.
+// ---------------------------------------------------------------------------------------------------------------------
+
+type Id = [u8; 16];
+
+#[derive(Clone, Copy, PartialEq, Debug)]
+struct Mask([u64; 4]);
+
+impl Mask {
+    const NONE: Mask = Mask([0; 4]);
+    const ALL: Mask = Mask([u64::MAX; 4]);
+
+    fn has(&self, n: u8) -> bool {
+        self.0[n as usize / 64] >> (63 - n % 64) & 1 == 1
+    }
+
+    fn set(&mut self, n: u8) {
+        self.0[n as usize / 64] |= 1 << (63 - n % 64);
+    }
+
+    fn and(&self, other: &Mask) -> Mask {
+        Mask(std::array::from_fn(|k| self.0[k] & other.0[k]))
+    }
+
+    fn meets(&self, other: &Mask) -> bool {
+        (0..4).any(|k| self.0[k] & other.0[k] != 0)
+    }
+
+    fn any_above(&self, limit: u8) -> bool {
+        (0..=255).any(|n| n > limit && self.has(n))
+    }
+
+    fn from_bytes(bytes: &[u8]) -> Mask {
+        Mask(std::array::from_fn(|k| u64::from_be_bytes(bytes[8 * k..8 * k + 8].try_into().unwrap())))
+    }
+
+    fn put_bytes(&self, out: &mut [u8]) {
+        for k in 0..4 {
+            out[8 * k..8 * k + 8].copy_from_slice(&self.0[k].to_be_bytes());
+        }
+    }
+}
+
+fn number(text: &[u8]) -> Option<u16> {
+    let text = text.strip_suffix(b"\n").unwrap_or(text);
+    if text.is_empty() || text.len() > 16 {
+        return None;
+    }
+    let (digits, base) = match text {
+        [b'0', b'x', rest @ ..] => (rest, 16),
+        [b'0', ..] => (text, 8),
+        _ => (text, 10),
+    };
+    if digits.is_empty() {
+        return None;
+    }
+    let mut value = 0;
+    for &c in digits {
+        value = value * base as u64 + (c as char).to_digit(base)? as u64;
+    }
+    (value <= 65_535).then_some(value as u16)
+}
+
+#[derive(Clone)]
+struct Device {
+    id: Id,
+    adapters: Mask,
+    domains: Mask,
+    controls: Mask,
+}
+
+#[derive(Clone)]
+struct Service {
+    highest_adapter: u8,
+    highest_domain: u8,
+    apmask: Mask,
+    aqmask: Mask,
+    adapters: Mask,
+    domains: Mask,
+    controls: Mask,
+    types: [u8; 256],
+    devices: Vec<Device>,
+}
+
+const UNBOUND: u8 = 0;
+const HOST: u8 = 1;
+const PASSTHROUGH: u8 = 2;
+
+impl Service {
+    fn new() -> Service {
+        Service {
+            highest_adapter: 255,
+            highest_domain: 255,
+            apmask: Mask::ALL,
+            aqmask: Mask::ALL,
+            adapters: Mask::NONE,
+            domains: Mask::NONE,
+            controls: Mask::NONE,
+            types: [0; 256],
+            devices: Vec::new(),
+        }
+    }
+
+    fn find(&self, id: &Id) -> Option<usize> {
+        self.devices.iter().position(|v| v.id == *id)
+    }
+
+    fn create(&mut self, id: &Id) {
+        self.devices.push(Device { id: *id, adapters: Mask::NONE, domains: Mask::NONE, controls: Mask::NONE });
+    }
+
+    #[inline(never)]
+    fn assign(&mut self, id: &Id, kind: u8, text: &[u8]) -> u8 {
+        let Some(n) = number(text) else { return 22 };
+        let Some(i) = self.find(id) else { return 2 };
+        let limit = if kind == 0 { self.highest_adapter } else { self.highest_domain };
+        if n > limit as u16 {
+            return 19;
+        }
+        let n = n as u8;
+        match kind {
+            0 => {
+                if self.devices[i].adapters.has(n) {
+                    return 0;
+                }
+                let domains = self.devices[i].domains;
+                if self.apmask.has(n) && self.aqmask.meets(&domains) {
+                    return 99;
+                }
+                if self.devices.iter().enumerate().any(|(j, v)| j != i && v.adapters.has(n) && v.domains.meets(&domains)) {
+                    return 98;
+                }
+                self.devices[i].adapters.set(n);
+            }
+            1 => {
+                if self.devices[i].domains.has(n) {
+                    return 0;
+                }
+                let adapters = self.devices[i].adapters;
+                if self.aqmask.has(n) && self.apmask.meets(&adapters) {
+                    return 99;
+                }
+                if self.devices.iter().enumerate().any(|(j, v)| j != i && v.domains.has(n) && v.adapters.meets(&adapters)) {
+                    return 98;
+                }
+                self.devices[i].domains.set(n);
+            }
+            _ => self.devices[i].controls.set(n),
+        }
+        0
+    }
+
+    #[inline(never)]
+    fn configure(&mut self, drivers: &mut [u8; QUEUES], bytes: &[u8; 352]) -> u8 {
+        let adapters = Mask::from_bytes(&bytes[..32]);
+        let domains = Mask::from_bytes(&bytes[32..64]);
+        let controls = Mask::from_bytes(&bytes[64..96]);
+        if adapters.any_above(self.highest_adapter)
+            || domains.any_above(self.highest_domain)
+            || controls.any_above(self.highest_domain)
+        {
+            return 19;
+        }
+        for a in 0..=255 {
+            self.types[a as usize] = if adapters.has(a) { bytes[96 + a as usize] } else { 0 };
+            if !self.adapters.has(a) {
+                continue;
+            }
+            for d in 0..=255 {
+                if self.domains.has(d) && !(adapters.has(a) && domains.has(d)) {
+                    drivers[a as usize * 256 + d as usize] = UNBOUND;
+                }
+            }
+        }
+        self.adapters = adapters;
+        self.domains = domains;
+        self.controls = controls;
+        0
+    }
+
+    fn target(&self, a: u8, d: u8) -> u8 {
+        if !self.adapters.has(a) || !self.domains.has(d) {
+            UNBOUND
+        } else if self.apmask.has(a) && self.aqmask.has(d) {
+            HOST
+        } else if self.types[a as usize] >= 10 {
+            PASSTHROUGH
+        } else {
+            UNBOUND
+        }
+    }
+
+    /// The moves used, and whether any remain.
+    #[inline(never)]
+    fn sweep(&self, drivers: &mut [u8; QUEUES], budget: u32) -> (u32, bool) {
+        let budget = budget.min(MOST_MOVES);
+        let mut used = 0;
+        for a in 0..=255 {
+            for d in 0..=255 {
+                let driver = &mut drivers[a as usize * 256 + d as usize];
+                let target = self.target(a, d);
+                while *driver != target {
+                    if used == budget {
+                        return (used, true);
+                    }
+                    *driver = if *driver == UNBOUND { target } else { UNBOUND };
+                    used += 1;
+                }
+            }
+        }
+        (used, false)
+    }
+
+    fn guest(&self, drivers: &[u8; QUEUES], device: &Device) -> [Mask; 3] {
+        let domains = device.domains.and(&self.domains);
+        let mut adapters = Mask::NONE;
+        for a in 0..=255 {
+            if device.adapters.has(a)
+                && self.adapters.has(a)
+                && (0..=255).all(|d| !domains.has(d) || drivers[a as usize * 256 + d as usize] == PASSTHROUGH)
+            {
+                adapters.set(a);
+            }
+        }
+        [adapters, domains, device.controls.and(&self.controls)]
+    }
+
+    #[inline(never)]
+    fn guest_masks(&self, drivers: &[u8; QUEUES], id: &Id, out: &mut [u8; 96]) -> u8 {
+        let Some(i) = self.find(id) else { return 2 };
+        for (k, mask) in self.guest(drivers, &self.devices[i]).iter().enumerate() {
+            mask.put_bytes(&mut out[32 * k..32 * k + 32]);
+        }
+        0
+    }
+
+    /// Lists what is assigned: the answer, the bytes written and the next place.
+    #[inline(never)]
+    fn list(&self, id: &Id, place: usize, buffer: &mut [u8]) -> (u8, usize, usize) {
+        let Some(i) = self.find(id) else { return (2, 0, place) };
+        if buffer.len() < 8 {
+            return (28, 0, place);
+        }
+        let hex = b"0123456789abcdef";
+        let device = &self.devices[i];
+        let (mut written, mut past) = (0, 0);
+        for queue in place.min(QUEUES)..QUEUES {
+            let (a, d) = ((queue / 256) as u8, (queue % 256) as u8);
+            if !device.adapters.has(a) || !device.domains.has(d) {
+                continue;
+            }
+            if buffer.len() - written < 8 {
+                return (0, written, past);
+            }
+            let digits = |n: u8| [hex[n as usize / 16], hex[n as usize % 16]];
+            let ([a1, a0], [d1, d0]) = (digits(a), digits(d));
+            buffer[written..written + 8].copy_from_slice(&[a1, a0, b'.', b'0', b'0', d1, d0, b'\n']);
+            written += 8;
+            past = queue + 1;
+        }
+        (0, written, QUEUES)
+    }
+}
+
+// ---------------------------------------------------------------------------------------------------------------------
+// Both sides.
+// ---------------------------------------------------------------------------------------------------------------------
+
+fn halves(id: &Id) -> (u64, u64) {
+    (u64::from_be_bytes(id[..8].try_into().unwrap()), u64::from_be_bytes(id[8..].try_into().unwrap()))
+}
+
+fn device_id(n: u8) -> Id {
+    let mut id = [0; 16];
+    id[0] = n.wrapping_mul(37);
+    id[15] = n;
+    id
+}
+
+struct Both {
+    words: Vec<u64>,
+    drivers: Vec<u8>,
+    service: Service,
+    other: Box<[u8; QUEUES]>,
+}
+
+impl Both {
+    fn new() -> Both {
+        let mut both = Both {
+            words: vec![0; WORDS],
+            drivers: vec![0; QUEUES],
+            service: Service::new(),
+            other: vec![0; QUEUES].into_boxed_slice().try_into().unwrap(),
+        };
+        assert_eq!(unsafe { zk_fresh(both.words.as_mut_ptr(), both.drivers.as_mut_ptr(), 255, 255) }, 0);
+        both
+    }
+
+    fn create(&mut self, id: &Id) {
+        let (hi, lo) = halves(id);
+        assert_eq!(unsafe { zk_create(self.words.as_mut_ptr(), hi, lo) }, 0);
+        self.service.create(id);
+    }
+
+    fn assign(&mut self, id: &Id, kind: u8, n: u8) {
+        let (hi, lo) = halves(id);
+        let text = format!("{n}");
+        assert_eq!(unsafe { zk_assign(self.words.as_mut_ptr(), hi, lo, kind, text.as_ptr(), text.len()) }, 0);
+        assert_eq!(self.service.assign(id, kind, text.as_bytes()), 0);
+    }
+
+    fn set_masks(&mut self, apmask: Mask, aqmask: Mask) {
+        let text = |m: Mask| format!("0x{}", m.0.map(|w| format!("{w:016x}")).concat());
+        let (ap, aq) = (text(apmask), text(aqmask));
+        assert_eq!(unsafe { zk_set_apmask(self.words.as_mut_ptr(), ap.as_ptr(), ap.len()) }, 0);
+        assert_eq!(unsafe { zk_set_aqmask(self.words.as_mut_ptr(), aq.as_ptr(), aq.len()) }, 0);
+        self.service.apmask = apmask;
+        self.service.aqmask = aqmask;
+    }
+
+    fn configure(&mut self, bytes: &[u8; 352]) {
+        let answer = unsafe { zk_configure(self.words.as_mut_ptr(), self.drivers.as_mut_ptr(), bytes.as_ptr()) };
+        assert_eq!((answer, self.service.configure(&mut self.other, bytes)), (0, 0));
+    }
+
+    fn sweep(&mut self) {
+        let mut more = 0;
+        unsafe { zk_sweep(self.words.as_ptr(), self.drivers.as_mut_ptr(), MOST_MOVES, &mut more) };
+        self.service.sweep(&mut self.other, MOST_MOVES);
+        self.assert_same();
+    }
+
+    /// Everything that either side keeps.
+    fn assert_same(&self) {
+        assert!(self.drivers[..] == self.other[..], "drivers differ");
+        let s = &self.service;
+        let at = |k: usize| Mask(self.words[k..k + 4].try_into().unwrap());
+        assert_eq!([at(2), at(6), at(10), at(14), at(18)], [s.apmask, s.aqmask, s.adapters, s.domains, s.controls]);
+        assert!((0..256).all(|a| self.words[22 + a] == s.types[a] as u64), "types differ");
+        for (p, device) in s.devices.iter().enumerate() {
+            let k = 278 + 16 * p;
+            assert_eq!((self.words[k + 2], self.words[k + 3]), halves(&device.id));
+            assert_eq!([at(k + 4), at(k + 8), at(k + 12)], [device.adapters, device.domains, device.controls]);
+        }
+    }
+}
+
+fn configuration(adapters: Mask, domains: Mask, hardware: u8) -> [u8; 352] {
+    let mut bytes = [hardware; 352];
+    for (k, mask) in [adapters, domains, domains].iter().enumerate() {
+        mask.put_bytes(&mut bytes[32 * k..32 * k + 32]);
+    }
+    bytes
+}
+
+fn timed(work: impl FnOnce()) -> Duration {
+    let begin = Instant::now();
+    work();
+    begin.elapsed()
+}
+
+/// The best of several rounds of both, in turn; the first warms up. A round answers the time of each.
+fn best(rounds: usize, mut round: impl FnMut() -> [Duration; 2]) -> [Duration; 2] {
+    round();
+    let mut best = [Duration::MAX; 2];
+    for _ in 0..rounds {
+        let times = round();
+        for side in 0..2 {
+            best[side] = best[side].min(times[side]);
+        }
+    }
+    best
+}
+
+fn show(name: &str, calls: u32, [rattle, rust]: [Duration; 2]) {
+    let each = |d: Duration| d.as_nanos() as f64 / calls as f64;
+    println!("{name:72} Rattle {:10.1} ns   Rust {:10.1} ns   ratio {:.2}", each(rattle), each(rust), each(rattle) / each(rust));
+}
+
+struct Random(u64);
+
+impl Random {
+    fn below(&mut self, n: usize) -> usize {
+        self.0 = self.0.wrapping_mul(6_364_136_223_846_793_005).wrapping_add(1_442_695_040_888_963_407);
+        (self.0 >> 33) as usize % n
+    }
+}
+
+// ---------------------------------------------------------------------------------------------------------------------
+// (a) A million assigns.
+// ---------------------------------------------------------------------------------------------------------------------
+
+struct Command {
+    device: u8,
+    kind: u8,
+    length: u8,
+    text: [u8; 8],
+}
+
+fn command(random: &mut Random, device: usize, n: usize) -> Command {
+    let mut spelled = match random.below(4) {
+        0 | 1 => format!("{n}"),
+        2 => format!("0x{n:x}"),
+        _ => format!("0{n:o}"),
+    };
+    if random.below(2) == 0 {
+        spelled.push('\n');
+    }
+    let mut text = [0; 8];
+    text[..spelled.len()].copy_from_slice(spelled.as_bytes());
+    Command { device: device as u8, kind: (device >= 4) as u8, length: spelled.len() as u8, text }
+}
+
+const BATCHES: usize = 1_000;
+const BATCH: usize = 1_000;
+const BATCH_ACCEPTED: usize = 340;
+const BATCH_IN_USE: usize = 330;
+
+/// Eight devices in four pairs. Devices 0 to 3 hold two domains each and ask for adapters; 4 to 7 hold two adapters each and
+/// ask for domains. The two of a pair hold the same numbers, so what one has of the other kind is in use for the other.
+/// Numbers from 170 on are in both host masks, and what the devices hold is such, so asking for another of them meets a
+/// reserved queue. Of the others, 0 to 42 are assigned to the first of a pair and 43 to 84 to the second; 85 to 169 are
+/// free, and a batch asks for each of them once, for one of the two.
+///
+/// So a batch of 1,000 has 340 accepted (all of them new: four pairs of 85), 330 refused with 98 and 330 with 99. Before
+/// each of 1,000 batches both sides go back to the state at the start, outside of the timed part.
+fn assigns() {
+    let mut both = Both::new();
+    let mut host = Mask::NONE;
+    (170..=255).for_each(|n| host.set(n));
+    both.set_masks(host, host);
+    for n in 0..8 {
+        both.create(&device_id(n));
+    }
+    for n in 0..8 {
+        let (id, pair, kind) = (device_id(n), n / 2 % 2, (n >= 4) as u8);
+        both.assign(&id, 1 - kind, 180 + pair);
+        both.assign(&id, 1 - kind, 220 + pair);
+        for number in if n % 2 == 0 { 0..=42 } else { 43..=84 } {
+            both.assign(&id, kind, number);
+        }
+    }
+    both.assert_same();
+
+    let mut random = Random(12_345);
+    let mut commands = Vec::with_capacity(BATCHES * BATCH);
+    for _ in 0..BATCHES {
+        let mut batch = Vec::with_capacity(BATCH);
+        for pair in 0..4 {
+            for n in 85..170 {
+                let device = 2 * pair + random.below(2);
+                batch.push(command(&mut random, device, n));
+            }
+        }
+        for _ in 0..BATCH_IN_USE {
+            let (pair, n) = (random.below(4), random.below(85));
+            let device = 2 * pair + (n <= 42) as usize;
+            batch.push(command(&mut random, device, n));
+        }
+        while batch.len() < BATCH {
+            let (device, n) = (random.below(8), 170 + random.below(86));
+            batch.push(command(&mut random, device, n));
+        }
+        for k in (1..BATCH).rev() {
+            batch.swap(k, random.below(k + 1));
+        }
+        commands.extend(batch);
+    }
+
+    let ids: Vec<Id> = (0..8).map(device_id).collect();
+    let pairs: Vec<(u64, u64)> = ids.iter().map(halves).collect();
+    let (words, service) = (both.words.clone(), both.service.clone());
+    let (mut answers, mut others) = (vec![0u8; BATCHES * BATCH], vec![0u8; BATCHES * BATCH]);
+    let times = best(7, || {
+        let mut times = [Duration::ZERO; 2];
+        for (k, batch) in commands.chunks(BATCH).enumerate() {
+            let part = k * BATCH..(k + 1) * BATCH;
+            // in turn, as the second finds the batch in the cache
+            for side in [k % 2, 1 - k % 2] {
+                if side == 0 {
+                    both.words.copy_from_slice(&words);
+                    times[0] += timed(|| {
+                        for (c, answer) in batch.iter().zip(&mut answers[part.clone()]) {
+                            let (hi, lo) = pairs[c.device as usize];
+                            let text = black_box(&c.text).as_ptr();
+                            *answer = unsafe { zk_assign(both.words.as_mut_ptr(), hi, lo, c.kind, text, c.length as usize) };
+                        }
+                    });
+                } else {
+                    both.service.devices.clone_from(&service.devices);
+                    times[1] += timed(|| {
+                        for (c, answer) in batch.iter().zip(&mut others[part.clone()]) {
+                            let text = &black_box(&c.text)[..c.length as usize];
+                            *answer = both.service.assign(&ids[c.device as usize], c.kind, text);
+                        }
+                    });
+                }
+            }
+        }
+        assert!(answers == others, "answers differ");
+        both.assert_same();
+        times
+    });
+    let count = |value| answers.iter().filter(|&&a| a == value).count();
+    let counts = [count(0), count(98), count(99)];
+    assert_eq!(counts, [BATCHES * BATCH_ACCEPTED, BATCHES * BATCH_IN_USE, BATCHES * (BATCH - BATCH_ACCEPTED - BATCH_IN_USE)]);
+    assert!(counts.iter().all(|&n| n >= 300_000));
+    show(&format!("assign with text: {} accepted, {} 98, {} 99", counts[0], counts[1], counts[2]), (BATCHES * BATCH) as u32, times);
+}
+
+// ---------------------------------------------------------------------------------------------------------------------
+// (b) to (e).
+// ---------------------------------------------------------------------------------------------------------------------
+
+const EVERY_OTHER: Mask = Mask([0xaaaa_aaaa_aaaa_aaaa; 4]);
+const THE_OTHERS: Mask = Mask([0x5555_5555_5555_5555; 4]);
+
+fn configures() {
+    const CALLS: usize = 100;
+    let mut both = Both::new();
+    let configurations = [configuration(EVERY_OTHER, EVERY_OTHER, 11), configuration(Mask::ALL, Mask::ALL, 10)];
+    both.configure(&configurations[1]);
+    both.sweep();
+    let times = best(9, || {
+        let rattle = timed(|| {
+            for k in 0..CALLS {
+                let bytes = black_box(&configurations[k % 2]);
+                let answer = unsafe { zk_configure(both.words.as_mut_ptr(), both.drivers.as_mut_ptr(), bytes.as_ptr()) };
+                assert_eq!(black_box(answer), 0);
+            }
+        });
+        let rust = timed(|| {
+            for k in 0..CALLS {
+                let answer = both.service.configure(&mut both.other, black_box(&configurations[k % 2]));
+                assert_eq!(black_box(answer), 0);
+            }
+        });
+        both.assert_same();
+        [rattle, rust]
+    });
+    show("configure: 256 by 256 and 128 by 128 in turn", CALLS as u32, times);
+}
+
+fn sweeps() {
+    let mut both = Both::new();
+    both.configure(&configuration(Mask::ALL, Mask::ALL, 10));
+    both.set_masks(EVERY_OTHER, Mask::ALL);
+    both.sweep();
+    let mut now = EVERY_OTHER;
+    let times = best(25, || {
+        now = if now == EVERY_OTHER { THE_OTHERS } else { EVERY_OTHER };
+        both.set_masks(now, Mask::ALL);
+        let (mut used, mut more, mut answer) = (0, 9, (0, true));
+        let rattle = timed(|| {
+            used = unsafe { zk_sweep(both.words.as_ptr(), both.drivers.as_mut_ptr(), black_box(MOST_MOVES), &mut more) };
+        });
+        let rust = timed(|| answer = both.service.sweep(&mut both.other, black_box(MOST_MOVES)));
+        assert_eq!(((used, more), answer), ((MOST_MOVES, 0), (MOST_MOVES, false)));
+        both.assert_same();
+        [rattle, rust]
+    });
+    show("sweep after the host masks are exchanged: 131072 moves", 1, times);
+}
+
+/// A device with everything assigned, everything configured and bound to passthrough.
+fn whole_matrix() -> (Both, Id) {
+    let mut both = Both::new();
+    let id = device_id(5);
+    both.set_masks(Mask::NONE, Mask::NONE);
+    both.configure(&configuration(Mask::ALL, Mask::ALL, 10));
+    both.sweep();
+    both.create(&id);
+    for n in 0..=255 {
+        both.assign(&id, 0, n);
+        both.assign(&id, 1, n);
+        both.assign(&id, 2, n);
+    }
+    both.assert_same();
+    (both, id)
+}
+
+fn listings() {
+    let (both, id) = whole_matrix();
+    let (hi, lo) = halves(&id);
+    let mut buffers = [vec![0u8; LIST_BYTES], vec![0u8; LIST_BYTES]];
+    let times = best(25, || {
+        let (mut answer, mut written, mut next, mut other) = (9, 9, 9, (9, 9, 9));
+        let (words, drivers) = (both.words.as_ptr(), both.drivers.as_ptr());
+        let [a, b] = &mut buffers;
+        let rattle = timed(|| {
+            answer = unsafe {
+                zk_list(words, drivers, hi, lo, 0, black_box(0), a.as_mut_ptr(), LIST_BYTES, &mut written, &mut next)
+            };
+        });
+        let rust = timed(|| other = both.service.list(&id, black_box(0), b));
+        assert_eq!(((answer, written, next), other), ((0, LIST_BYTES, QUEUES), (0, LIST_BYTES, QUEUES)));
+        assert!(a == b, "listings differ");
+        [rattle, rust]
+    });
+    show("list: 65536 lines", 1, times);
+}
+
+fn guest_masks() {
+    const CALLS: u32 = 20;
+    let (both, id) = whole_matrix();
+    let (hi, lo) = halves(&id);
+    let (mut a, mut b) = ([0; 96], [1; 96]);
+    let times = best(15, || {
+        let rattle = timed(|| {
+            for _ in 0..CALLS {
+                let (words, drivers) = (black_box(both.words.as_ptr()), black_box(both.drivers.as_ptr()));
+                assert_eq!(unsafe { zk_masks(words, drivers, hi, lo, 1, a.as_mut_ptr()) }, 0);
+            }
+        });
+        let rust = timed(|| {
+            for _ in 0..CALLS {
+                assert_eq!(black_box(&both.service).guest_masks(black_box(&both.other), &id, &mut b), 0);
+            }
+        });
+        assert_eq!((a, b), ([255; 96], [255; 96]));
+        [rattle, rust]
+    });
+    show("guest masks: 256 by 256", CALLS, times);
+}
+
+fn main() {
+    assigns();
+    configures();
+    sweeps();
+    listings();
+    guest_masks();
+}

@@ -1,0 +1,140 @@
+-- What assigning writes and reads, and the tests of the rules at a number.
+-- Assumes nothing.
+use Prim.Native.Nat.{ℕ, zero, suc, _+_, _^_, _≤_, _<_, _%_}
+use native.Mathlib.Omega.{arith}
+use mathlib.Core.Bool.{Bool, true, false, cond, _||_, or-false}
+use mathlib.Core.List.{List}
+use mathlib.Core.Path.{_≡_, refl, sym, ap, ap₂, subst, _∙_, fun-ext}
+use lib.ListN.{getD}
+use lib.Dec.{eqb, leb}
+use borrow.Author.Tests.{eqb-true, leb-true}
+use Rattle.errno.specs.Outcome.{Outcome, granted, refused}
+use Rattle.errno.specs.Errno.{numberOf}
+use Rattle.errno.specs.declared.Errno.the-variants.{Einval}
+use Rattle.mask.specs.declared.Mask.{Mask}
+use Rattle.mask.specs.Bits.{Bits, bits, someBelow, both, included, noBits}
+use Rattle.mask.proofs.Laws.{Words}
+use Rattle.number.specs.Text.{numberText}
+use Rattle.rules.specs.declared.Answer.{Answer}
+use Rattle.rules.specs.declared.Answer.the-variants.{Refused}
+use Rattle.rules.specs.declared.Id.{Id}
+use Rattle.rules.specs.declared.Kind.{Kind}
+use Rattle.rules.specs.declared.Kind.the-variants.{Adapter, Domain, Control}
+use Rattle.rules.specs.State.{State, places, queues, inProduct}
+use Rattle.rules.specs.Queues.{reserved}
+use Rattle.rules.specs.Commands.{numbersOf, withNumbers, withDevice, single, onDevice, placeOf, limitOf, reading, assignAt, adding, paired, assignedElsewhere}
+use Rattle.record.specs.Carried.{Carried}
+use Rattle.record.specs.Held.{Held}
+use Rattle.record.specs.Layout.{four, maskAt, deviceIn, limitsIn, hostIn, stateIn, wordsOf, putFour, putNumbers, deviceAt, kindAt}
+use Rattle.record.proofs.Laws.{cond-below, device-there, numbers-there, words-of, put-same, read-numbers, refused-carried}
+use Rattle.lookup.proofs.Found.{known}
+use Rattle.assign.specs.Numbers.{value, changed}
+
+-- a number alone, as a mask with one bit set
+pub one-bit : (n : ℕ) → included n noBits ≡ single n
+unfolding included noBits single
+one-bit n = fun-ext (λ i. or-false (eqb i n))
+
+-- a number that is assigned adds nothing
+absorbed : (n : ℕ) (m : Bits) → m n ≡ true → included n m ≡ m
+unfolding included
+absorbed n m h = fun-ext (λ i. go i (eqb i n) refl)
+  where
+    go : (i : ℕ) (b : Bool) → eqb i n ≡ b → (b || m i) ≡ m i
+    go i true e = sym (ap m (eqb-true i n e) ∙ h)
+    go i false e = refl
+
+-- four of the record's words
+four-words : {ws : List ℕ} → Held 64 406 ws → (k : ℕ) → Words 64 4 (four ws k)
+four-words {ws} h k = record { long = refl; small = go }
+  where
+    go : (q : ℕ) → getD (four ws k) q 0 < 2 ^ 64
+    go zero = h .small k
+    go (suc zero) = h .small (k + 1)
+    go (suc (suc zero)) = h .small (k + 2)
+    go (suc (suc (suc zero))) = h .small (k + 3)
+    go (suc (suc (suc (suc q)))) = omega arith
+
+module _ (ws : List ℕ) (k : Kind) (p : ℕ) (held : Held 64 406 ws) (there : p < places) where
+  -- an assigned number leaves the words as they are
+  pub same-words : (n : ℕ) → numbersOf k (deviceIn ws p) n ≡ true → ws ≡ changed ws k p (included n)
+  unfolding changed putNumbers maskAt
+  same-words n e =
+      let at = deviceAt p + kindAt k in
+      sym (ap (λ (m : Bits). putNumbers ws p k (wordsOf m))
+      (absorbed n (numbersOf k (deviceIn ws p)) e ∙ ap (numbersOf k) (device-there ws p there) ∙ numbers-there ws p k)
+      ∙ ap (putNumbers ws p k) (words-of (four-words held at)) ∙ cond-below p places (putFour ws at (four ws at)) ws there ∙ put-same ws at)
+
+  module _ (f : Bits → Bits) (m : Mask) (words : Words 64 4 (m .words)) (made : bits m ≡ f (numbersOf k (deviceIn ws p))) where
+    -- the words once a changed mask is put
+    pub put-changed : putNumbers ws p k (m .words) ≡ changed ws k p f
+    unfolding changed
+    put-changed = ap (putNumbers ws p k) (sym (words-of words) ∙ ap wordsOf made)
+
+    -- the record that they hold
+    pub read-changed : (qs : List ℕ) → stateIn (changed ws k p f) qs ≡ withDevice p (withNumbers k (f (numbersOf k (deviceIn ws p))) (deviceIn ws p)) (stateIn ws qs)
+    read-changed qs =
+        ap (λ (l : List ℕ). stateIn l qs) (sym put-changed) ∙ read-numbers ws qs p (held .long) there k (m .words) (words .long)
+        ∙ ap (λ (b : Bits). withDevice p (withNumbers k b (deviceIn ws p)) (stateIn ws qs)) made
+
+-- ---- the limit of a kind
+
+limit-small : (k : Kind) (ws : List ℕ) → limitOf k (limitsIn ws) ≤ 255
+unfolding limitOf limitsIn
+limit-small Adapter ws = omega arith
+limit-small Domain ws = omega arith
+limit-small Control ws = omega arith
+
+-- a number in range is below 256
+pub in-range-small : (k : Kind) (ws : List ℕ) (n : ℕ) → leb n (limitOf k (limitsIn ws)) ≡ true → n % 256 ≡ n
+in-range-small k ws n e = omega (arith, leb-true n (limitOf k (limitsIn ws)) e, limit-small k ws)
+
+-- the device is at place p, and t says whether the number is in range
+pub by-range : (k : Kind) (i : Id) (n : ℕ) (ws qs : List ℕ) (p : ℕ) → p ≡ placeOf i (deviceIn ws) → p < places → (t : Bool) → t ≡ leb n (limitOf k (limitsIn ws))
+    → (next : ℕ → Outcome State)
+    → onDevice i (stateIn ws qs) (λ j. cond (leb n (limitOf k (stateIn ws qs .limits))) (next j) (refused 19)) ≡ cond t (next p) (refused 19)
+unfolding stateIn
+by-range k i n ws qs p at there t e next =
+    known i ws qs p at (λ j. cond (leb n (limitOf k (limitsIn ws))) (next j) (refused 19)) there
+    ∙ ap (λ (b : Bool). cond b (next p) (refused 19)) (sym e)
+
+-- ---- the rule at a place
+
+module _ (k : Kind) (n p : ℕ) (ws qs : List ℕ) where
+  -- the record with the number assigned
+  abbrev numbered : State
+  numbered = withDevice p (withNumbers k (included n (numbersOf k (deviceIn ws p))) (deviceIn ws p)) (stateIn ws qs)
+
+  -- a number that is assigned
+  pub assigned-already : numbersOf k (deviceIn ws p) n ≡ true → assignAt k n p (stateIn ws qs) ≡ granted (stateIn ws qs)
+  unfolding assignAt stateIn
+  assigned-already e = ap (λ (b : Bool). cond b (granted (stateIn ws qs)) (adding (paired k n (deviceIn ws p)) p (stateIn ws qs) numbered)) e
+
+  -- a new number, by what the two tests of its queues find
+  pub new-number : (us ds : Bits) → inProduct us ds ≡ paired k n (deviceIn ws p) → numbersOf k (deviceIn ws p) n ≡ false
+      → {x y : Bool} → someBelow queues (both (inProduct us ds) (reserved (hostIn ws))) ≡ x
+      → someBelow queues (both (inProduct us ds) (assignedElsewhere p (deviceIn ws))) ≡ y
+      → assignAt k n p (stateIn ws qs) ≡ cond x (refused 99) (cond y (refused 98) (granted numbered))
+  unfolding assignAt adding stateIn
+  new-number us ds pairs none hx hy =
+      ap (λ (b : Bool). cond b (granted (stateIn ws qs)) (adding (paired k n (deviceIn ws p)) p (stateIn ws qs) numbered)) none
+      ∙ ap₂ (λ (x y : Bool). cond x (refused 99) (cond y (refused 98) (granted numbered)))
+      (ap (λ (m : Bits). someBelow queues (both m (reserved (hostIn ws)))) (sym pairs) ∙ hx)
+      (ap (λ (m : Bits). someBelow queues (both m (assignedElsewhere p (deviceIn ws)))) (sym pairs) ∙ hy)
+
+-- ---- the text of a number
+
+module _ (rule : ℕ → State → Outcome State) (effect : ℕ → List ℕ) (text ws : List ℕ) where
+  -- the number that a text says
+  pub by-number : (n : ℕ) (after : List ℕ) (r : Answer) → numberText text ≡ granted n → Carried (rule n) (effect n) ws after r
+      → Carried (λ s. reading (numberText text) (λ m. rule m s)) (effect (value (numberText text))) ws after r
+  unfolding reading value
+  by-number n after r e =
+      subst (λ (o : Outcome ℕ). Carried (rule n) (effect n) ws after r → Carried (λ s. reading o (λ m. rule m s)) (effect (value o)) ws after r) (sym e) (λ h. h)
+
+  -- bad text
+  pub by-none : numberText text ≡ refused 22 → Carried (λ s. reading (numberText text) (λ m. rule m s)) (effect (value (numberText text))) ws ws (Refused Einval)
+  unfolding reading numberOf
+  by-none e =
+      refused-carried (λ s. reading (numberText text) (λ m. rule m s)) _ ws Einval
+      (λ qs. ap (λ (o : Outcome ℕ). reading o (λ m. rule m (stateIn ws qs))) e)

@@ -1,0 +1,106 @@
+-- `assign_at` meets its contract: a return for each case of the rule.
+-- Assumes nothing.
+use Prim.Native.Nat.{ℕ}
+use mathlib.Core.Path.{refl, sym, ap, _∙_}
+use mathlib.Core.List.{List}
+use borrow.Author.Needs.{needs}
+use Rattle.errno.specs.Errno.{numberOf}
+use Rattle.errno.specs.declared.Errno.the-variants.{Eaddrinuse, Eaddrnotavail}
+use Rattle.mask.specs.Bits.{Bits, bits, included}
+use Rattle.mask.proofs.Laws.{mask-words}
+use Rattle.rules.specs.Commands.{assignAt, numbersOf, withDevice, withNumbers}
+use Rattle.record.specs.Layout.{deviceIn, stateIn}
+use Rattle.record.proofs.Laws.{refused-carried}
+use Rattle.lookup.proofs.Found.{done-carried}
+use Rattle.assign.proofs.Laws.{same-words, assigned-already, new-number, put-changed, read-changed}
+use Rattle.assign.proofs.assign_at.Statement.{statement}
+use Rattle.assign.proofs.assign_at.Tie as tie
+
+hold-words-requires : tie.Need-hold-words-requires
+hold-words-requires c κs = search needs
+
+numbers-requires : tie.Need-numbers-requires
+numbers-requires c κs = search needs
+
+has-requires : tie.Need-has-requires
+has-requires c κs = search needs
+
+returns : tie.Need-returns
+returns c =
+    let a = c .before .before .before .before .before .before .args in
+    let ws = a .s .now in
+    let has = sym (c .before .has .ensures ∙ ap (λ (m : Bits). m (a .n)) (c .before .before .numbers .ensures)) ∙ c .if1 .taken in
+    let same = same-words ws (a .k) (a .p) (c .before .before .before .before .hold-words .ensures) (c .before .before .before .before .before .before .pre) (a .n) has in
+    done-carried (λ qs. stateIn ws qs) same (λ qs. assigned-already (a .k) (a .n) (a .p) ws qs has) (λ qs. ap (λ (l : List ℕ). stateIn l qs) (sym same))
+
+paired-requires : tie.Need-paired-requires
+paired-requires c κs = search needs
+
+reserved-requires : tie.Need-reserved-requires
+reserved-requires c κs = search needs
+
+returns-2 : tie.Need-returns-2
+unfolding numberOf
+returns-2 c =
+    let a = c .before .before .before .before .before .before .before .before .before .before .before .before .before .args in
+    let ws = a .s .now in
+    let none = sym (c .before .before .before .before .before .before .before .before .has .ensures ∙ ap (λ (m : Bits). m (a .n)) (c .before .before .before .before .before .before .before .before .before .numbers .ensures)) ∙ c .before .before .before .before .before .before .before .if1 .left in
+    let new = c .before .before .before .before .before .paired in
+    refused-carried (assignAt (a .k) (a .n) (a .p)) _ ws Eaddrnotavail
+    (λ qs. new-number (a .k) (a .n) (a .p) ws qs (bits (new .result .adapters)) (bits (new .result .domains)) (new .ensures) none
+    (sym (c .before .reserved .ensures) ∙ c .if2 .taken) refl)
+
+taken-requires : tie.Need-taken-requires
+taken-requires c κs = search needs
+
+returns-3 : tie.Need-returns-3
+unfolding numberOf
+returns-3 c =
+    let a = c .before .before .before .before .before .before .before .before .before .before .before .before .before .before .before .before .args in
+    let ws = a .s .now in
+    let none = sym (c .before .before .before .before .before .before .before .before .before .before .before .has .ensures ∙ ap (λ (m : Bits). m (a .n)) (c .before .before .before .before .before .before .before .before .before .before .before .before .numbers .ensures)) ∙ c .before .before .before .before .before .before .before .before .before .before .if1 .left in
+    let new = c .before .before .before .before .before .before .before .before .paired in
+    refused-carried (assignAt (a .k) (a .n) (a .p)) _ ws Eaddrinuse
+    (λ qs. new-number (a .k) (a .n) (a .p) ws qs (bits (new .result .adapters)) (bits (new .result .domains)) (new .ensures) none
+    (sym (c .before .before .before .before .reserved .ensures) ∙ c .before .before .before .if2 .left) (sym (c .before .taken .ensures) ∙ c .if3 .taken))
+
+with-requires : tie.Need-with-requires
+with-requires c κs = search needs
+
+put-numbers-requires : tie.Need-put-numbers-requires
+put-numbers-requires c κs = search needs
+
+returns-4 : tie.Need-returns-4
+returns-4 c =
+    let a = c .before .before .before .before .before .before .before .before .before .before .before .before .before .before .before .before .before .before .before .args in
+    let ws = a .s .now in
+    let none = sym (c .before .before .before .before .before .before .before .before .before .before .before .before .before .before .has .ensures ∙ ap (λ (m : Bits). m (a .n)) (c .before .before .before .before .before .before .before .before .before .before .before .before .before .before .before .numbers .ensures)) ∙ c .before .before .before .before .before .before .before .before .before .before .before .before .before .if1 .left in
+    let new = c .before .before .before .before .before .before .before .before .before .before .before .paired in
+    let m = c .before .with .result in
+    let words = mask-words m (c .before .with .ok) in
+    let made = c .before .with .ensures ∙ ap (included (a .n)) (c .before .before .before .before .before .before .before .before .before .before .before .before .before .before .before .numbers .ensures) in
+    let held = c .before .before .before .before .before .before .before .before .before .before .before .before .before .before .before .before .before .hold-words .ensures in
+    let there = c .before .before .before .before .before .before .before .before .before .before .before .before .before .before .before .before .before .before .before .pre in
+    done-carried
+    (λ qs. withDevice (a .p) (withNumbers (a .k) (included (a .n) (numbersOf (a .k) (deviceIn ws (a .p)))) (deviceIn ws (a .p))) (stateIn ws qs))
+    (c .put-numbers .ensures ∙ put-changed ws (a .k) (a .p) held there (included (a .n)) m words made)
+    (λ qs. new-number (a .k) (a .n) (a .p) ws qs (bits (new .result .adapters)) (bits (new .result .domains)) (new .ensures) none
+    (sym (c .before .before .before .before .before .before .before .reserved .ensures) ∙ c .before .before .before .before .before .before .if2 .left) (sym (c .before .before .before .before .taken .ensures) ∙ c .before .before .before .if3 .left))
+    (read-changed ws (a .k) (a .p) held there (included (a .n)) m words made)
+
+pub assign-at-spec : {M : Type 1} → statement M
+assign-at-spec =
+    tie.close
+    (tie.spec
+    hold-words-requires
+    numbers-requires
+    has-requires
+    returns
+    paired-requires
+    reserved-requires
+    returns-2
+    taken-requires
+    returns-3
+    with-requires
+    put-numbers-requires
+    returns-4)

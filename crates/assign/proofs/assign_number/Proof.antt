@@ -1,0 +1,69 @@
+-- `assign_number` meets its contract.
+-- Assumes nothing.
+use Prim.Native.Nat.{ℕ}
+use mathlib.Core.Bool.{not, Bool·not-not}
+use mathlib.Core.Path.{sym, ap, ap₂, _∙_}
+use borrow.Author.Needs.{needs}
+use Rattle.errno.specs.Errno.{numberOf}
+use Rattle.errno.specs.declared.Errno.the-variants.{Enoent, Enodev}
+use Rattle.mask.specs.Bits.{included}
+use Rattle.rules.specs.Commands.{assignAt}
+use Rattle.record.specs.Layout.{stateIn}
+use Rattle.record.proofs.Laws.{refused-carried}
+use Rattle.lookup.proofs.Found.{unknown, carried-as}
+use Rattle.assign.specs.Numbers.{changed}
+use Rattle.assign.proofs.Laws.{by-range, in-range-small}
+use Rattle.assign.proofs.assign_number.Statement.{statement}
+use Rattle.assign.proofs.assign_number.Tie as tie
+
+find-requires : tie.Need-find-requires
+find-requires c κs = search needs
+
+returns : tie.Need-returns
+unfolding numberOf
+returns c =
+    let a = c .before .before .before .args in
+    refused-carried _ _ (a .s .now) Enoent
+    (λ qs. unknown (a .i) (a .s .now) qs (c .before .find .result) (c .before .find .ensures) _ (c .if1 .taken))
+
+in-range-requires : tie.Need-in-range-requires
+in-range-requires c κs = search needs
+
+returns-2 : tie.Need-returns-2
+unfolding numberOf
+returns-2 c =
+    let a = c .before .before .before .before .before .before .args in
+    let f = c .before .before .before .before .find in
+    let over = ap not (sym (c .if2 .taken)) ∙ Bool·not-not _ ∙ c .before .in-range .ensures in
+    refused-carried _ _ (a .s .now) Enodev
+    (λ qs. by-range (a .k) (a .i) (a .n) (a .s .now) qs (f .result) (f .ensures) (c .before .before .before .if1 .left) _ over _)
+
+cast-assign-at : tie.Need-cast-assign-at
+cast-assign-at c = search needs
+
+assign-at-requires : tie.Need-assign-at-requires
+assign-at-requires c κs = search needs
+
+returns-3 : tie.Need-returns-3
+returns-3 c =
+    let a = c .before .before .before .before .before .before .before .before .args in
+    let ws = a .s .now in
+    let f = c .before .before .before .before .before .before .find in
+    let within = ap not (sym (c .before .before .if2 .left)) ∙ Bool·not-not _ ∙ c .before .before .before .in-range .ensures in
+    let few = in-range-small (a .k) ws (a .n) (sym within) in
+    carried-as
+    (λ qs. by-range (a .k) (a .i) (a .n) ws qs (f .result) (f .ensures) (c .before .before .before .before .before .if1 .left) _ within _ ∙ ap (λ (n : ℕ). assignAt (a .k) n (f .result) (stateIn ws qs)) (sym few))
+    (ap₂ (λ (j n : ℕ). changed ws (a .k) j (included n)) (sym (f .ensures)) (sym few))
+    (c .assign-at .ensures)
+
+pub assign-number-spec : {M : Type 1} → statement M
+assign-number-spec =
+    tie.close
+    (tie.spec
+    find-requires
+    returns
+    in-range-requires
+    returns-2
+    cast-assign-at
+    assign-at-requires
+    returns-3)

@@ -1,0 +1,87 @@
+-- `paired` meets its contract.
+-- Assumes nothing.
+use mathlib.Core.Path.{sym, ap, ap₂, _∙_}
+use borrow.Author.Needs.{needs}
+use Rattle.mask.specs.Bits.{included, noBits}
+use Rattle.rules.specs.State.{inProduct}
+use Rattle.rules.specs.declared.Kind.{Kind}
+use Rattle.rules.specs.Commands.{numbersOf, paired}
+use Rattle.record.specs.Layout.{deviceIn}
+use Rattle.assign.proofs.Laws.{one-bit}
+use Rattle.assign.proofs.paired.Statement.{statement}
+use Rattle.assign.proofs.paired.Tie as tie
+
+enum-told : tie.Need-enum-told
+enum-told c = search needs
+
+empty-requires : tie.Need-empty-requires
+empty-requires c κs = search needs
+
+with-requires : tie.Need-with-requires
+with-requires c κs = search needs
+
+numbers-requires : tie.Need-numbers-requires
+numbers-requires c κs = search needs
+
+enum-told-2 : tie.Need-enum-told-2
+enum-told-2 c = search needs
+
+numbers-requires-2 : tie.Need-numbers-requires-2
+numbers-requires-2 c κs = search needs
+
+empty-requires-2 : tie.Need-empty-requires-2
+empty-requires-2 c κs = search needs
+
+with-requires-2 : tie.Need-with-requires-2
+with-requires-2 c κs = search needs
+
+enum-told-3 : tie.Need-enum-told-3
+enum-told-3 c = search needs
+
+empty-requires-3 : tie.Need-empty-requires-3
+empty-requires-3 c κs = search needs
+
+empty-requires-4 : tie.Need-empty-requires-4
+empty-requires-4 c κs = search needs
+
+returns : tie.Need-returns
+unfolding paired numbersOf
+returns c =
+    let a = c .before .before .before .before .before .args in
+    let v = deviceIn (a .s .now) (a .p) in
+    ap₂ inProduct (c .before .with .ensures ∙ ap (included (a .n)) (c .before .before .empty .ensures) ∙ one-bit (a .n)) (c .numbers .ensures)
+    ∙ ap (λ (k : Kind). paired k (a .n) v) (sym (c .before .before .before .enum-told .given .1))
+
+returns-2 : tie.Need-returns-2
+unfolding paired numbersOf
+returns-2 c =
+    let a = c .before .before .before .before .before .args in
+    let v = deviceIn (a .s .now) (a .p) in
+    ap₂ inProduct (c .before .before .numbers2 .ensures) (c .with2 .ensures ∙ ap (included (a .n)) (c .before .empty2 .ensures) ∙ one-bit (a .n))
+    ∙ ap (λ (k : Kind). paired k (a .n) v) (sym (c .before .before .before .enum-told2 .given .1))
+
+returns-3 : tie.Need-returns-3
+unfolding paired inProduct noBits
+returns-3 c =
+    let a = c .before .before .before .before .args in
+    let v = deviceIn (a .s .now) (a .p) in
+    ap₂ inProduct (c .before .empty3 .ensures) (c .empty4 .ensures) ∙ ap (λ (k : Kind). paired k (a .n) v) (sym (c .before .before .enum-told3 .given .1))
+
+pub paired-spec : {M : Type 1} → statement M
+paired-spec =
+    tie.close
+    (tie.spec
+    enum-told
+    empty-requires
+    with-requires
+    numbers-requires
+    enum-told-2
+    numbers-requires-2
+    empty-requires-2
+    with-requires-2
+    enum-told-3
+    empty-requires-3
+    empty-requires-4
+    returns
+    returns-2
+    returns-3)

@@ -1,0 +1,45 @@
+-- `unassign` meets its contract: what the text says, by `unassign_number`.
+-- Assumes nothing.
+use mathlib.Core.Path.{sym, ap, _∙_}
+use denote.Ref.{now}
+use borrow.Author.Needs.{needs}
+use Rattle.mask.specs.Bits.{excluded}
+use Rattle.number.specs.Text.{outcome}
+use Rattle.rules.specs.Commands.{placeOf, unassign}
+use Rattle.record.specs.Layout.{deviceIn}
+use Rattle.assign.specs.Numbers.{changed, withoutNumber}
+use Rattle.assign.proofs.Laws.{by-number, by-none}
+use Rattle.assign.proofs.unassign.Statement.{statement}
+use Rattle.assign.proofs.unassign.Tie as tie
+
+parse-requires : tie.Need-parse-requires
+parse-requires c κs = search needs
+
+enum-known-n : tie.Need-enum-known-n
+enum-known-n c = search needs
+
+unassign-number-requires : tie.Need-unassign-number-requires
+unassign-number-requires c κs = search needs
+
+enum-told : tie.Need-enum-told
+enum-told c = search needs
+
+returns : tie.Need-returns
+unfolding unassign withoutNumber outcome
+returns c =
+    let a = c .before .before .before .before .before .before .before .args in
+    let n = c .before .before .before .n .given in
+    by-number _ (λ n. changed (a .s .now) (a .k) (placeOf (a .i) (deviceIn (a .s .now))) (excluded n)) (now (a .text)) (a .s .now) (n .0 .0) _ _
+    (sym (c .before .before .before .before .before .parse .ensures) ∙ ap outcome (n .1)) (c .unassign-number .ensures)
+
+returns-2 : tie.Need-returns-2
+unfolding unassign withoutNumber outcome
+returns-2 c =
+    let a = c .before .before .before .before .args in
+    by-none _ (λ n. changed (a .s .now) (a .k) (placeOf (a .i) (deviceIn (a .s .now))) (excluded n)) (now (a .text)) (a .s .now)
+    (sym (c .before .before .parse .ensures) ∙ ap outcome (c .enum-told .given .1))
+
+pub unassign-spec : {M : Type 1} → statement M
+unassign-spec =
+    tie.close
+    (tie.spec parse-requires enum-known-n unassign-number-requires enum-told returns returns-2)

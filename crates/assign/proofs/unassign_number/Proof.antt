@@ -1,0 +1,92 @@
+-- `unassign_number` meets its contract.
+-- Assumes nothing.
+use Prim.Native.Nat.{ℕ}
+use mathlib.Core.Bool.{not, Bool·not-not}
+use mathlib.Core.Path.{sym, ap, ap₂, _∙_}
+use mathlib.Core.List.{List}
+use borrow.Author.Needs.{needs}
+use Rattle.errno.specs.Errno.{numberOf}
+use Rattle.errno.specs.declared.Errno.the-variants.{Enoent, Enodev}
+use Rattle.mask.specs.Bits.{excluded}
+use Rattle.mask.proofs.Laws.{mask-words}
+use Rattle.rules.specs.Commands.{numbersOf, withDevice, withNumbers}
+use Rattle.record.specs.Layout.{deviceIn, stateIn}
+use Rattle.record.proofs.Laws.{refused-carried}
+use Rattle.lookup.proofs.Found.{unknown, done-carried}
+use Rattle.assign.specs.Numbers.{changed}
+use Rattle.assign.proofs.Laws.{by-range, in-range-small, put-changed, read-changed}
+use Rattle.assign.proofs.unassign_number.Statement.{statement}
+use Rattle.assign.proofs.unassign_number.Tie as tie
+
+find-requires : tie.Need-find-requires
+find-requires c κs = search needs
+
+returns : tie.Need-returns
+unfolding numberOf
+returns c =
+    let a = c .before .before .before .args in
+    refused-carried _ _ (a .s .now) Enoent
+    (λ qs. unknown (a .i) (a .s .now) qs (c .before .find .result) (c .before .find .ensures) _ (c .if1 .taken))
+
+in-range-requires : tie.Need-in-range-requires
+in-range-requires c κs = search needs
+
+returns-2 : tie.Need-returns-2
+unfolding numberOf
+returns-2 c =
+    let a = c .before .before .before .before .before .before .args in
+    let f = c .before .before .before .before .find in
+    let over = ap not (sym (c .if2 .taken)) ∙ Bool·not-not _ ∙ c .before .in-range .ensures in
+    refused-carried _ _ (a .s .now) Enodev
+    (λ qs. by-range (a .k) (a .i) (a .n) (a .s .now) qs (f .result) (f .ensures) (c .before .before .before .if1 .left) _ over _)
+
+hold-words-requires : tie.Need-hold-words-requires
+hold-words-requires c κs = search needs
+
+numbers-requires : tie.Need-numbers-requires
+numbers-requires c κs = search needs
+
+cast-without : tie.Need-cast-without
+cast-without c = search needs
+
+without-requires : tie.Need-without-requires
+without-requires c κs = search needs
+
+put-numbers-requires : tie.Need-put-numbers-requires
+put-numbers-requires c κs = search needs
+
+returns-3 : tie.Need-returns-3
+unfolding stateIn
+returns-3 c =
+    let a = c .before .before .before .before .before .before .before .before .before .before .before .before .before .args in
+    let ws = a .s .now in
+    let f = c .before .before .before .before .before .before .before .before .before .before .before .find in
+    let p = f .result in
+    let there = c .before .before .before .before .before .before .before .before .before .before .if1 .left in
+    let within = ap not (sym (c .before .before .before .before .before .before .before .if2 .left)) ∙ Bool·not-not _ ∙ c .before .before .before .before .before .before .before .before .in-range .ensures in
+    let few = in-range-small (a .k) ws (a .n) (sym within) in
+    let m = c .before .without .result in
+    let words = mask-words m (c .before .without .ok) in
+    let made = c .before .without .ensures ∙ ap₂ excluded few (c .before .before .before .numbers .ensures) in
+    let held = c .before .before .before .before .before .hold-words .ensures in
+    let place : ℕ → List ℕ = λ j. changed ws (a .k) j (excluded (a .n)) in
+    done-carried
+    (λ qs. withDevice p (withNumbers (a .k) (excluded (a .n) (numbersOf (a .k) (deviceIn ws p))) (deviceIn ws p)) (stateIn ws qs))
+    (c .put-numbers .ensures ∙ put-changed ws (a .k) p held there (excluded (a .n)) m words made ∙ ap place (f .ensures))
+    (λ qs. by-range (a .k) (a .i) (a .n) ws qs p (f .ensures) there _ within _)
+    (λ qs. ap (λ (l : List ℕ). stateIn l qs) (ap place (sym (f .ensures))) ∙ read-changed ws (a .k) p held there (excluded (a .n)) m words made qs)
+
+pub unassign-number-spec : {M : Type 1} → statement M
+unassign-number-spec =
+    tie.close
+    (tie.spec
+    find-requires
+    returns
+    in-range-requires
+    returns-2
+    hold-words-requires
+    numbers-requires
+    cast-without
+    without-requires
+    put-numbers-requires
+    returns-3)

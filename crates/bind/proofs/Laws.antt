@@ -1,0 +1,290 @@
+-- The bytes that moves and sweeps write, read as moves and sweeps of the state; a sweep by turns.
+-- Assumes nothing.
+use Prim.Native.Nat.{ℕ, zero, suc, _+_, _-_, _*_, _/_, _%_, _≤_, _<_, min}
+use native.Mathlib.Nat.{le-refl}
+use native.Mathlib.Numerals.{add-one}
+use native.Mathlib.Omega.{arith}
+use mathlib.Core.Path.{_≡_, refl, sym, ap, _∙_, fun-ext}
+use mathlib.Core.Bool.{Bool, true, false, cond, not, _&&_}
+use mathlib.Core.List.{List}
+use lib.ListN.{length, getD, length-set}
+use lib.Seq.{getD-set-other}
+use lib.Dec.{eqb, ltb, leb}
+use borrow.Author.Tests.{eqb-true, eq-eqb, ne-eqb, ltb-true, ltb-false}
+use Rattle.rules.specs.declared.Driver.{Driver}
+use Rattle.rules.specs.declared.Driver.the-variants.{Unbound, Host, Passthrough}
+use Rattle.rules.specs.declared.Moved.{Moved}
+use Rattle.rules.specs.declared.Moved.the-variants.{Idle, Released, BoundHost, BoundPassthrough}
+use Rattle.rules.specs.State.{State, HostMasks, Config, queues}
+use Rattle.rules.specs.Queues.{reserved, configured, targetOf, moved, after, due, dueAt, sumBelow, remaining, rebound, moveAnswer, move, moves, sweepFrom}
+use Rattle.rules.proofs.Products.{in-product, queue-apid}
+use Rattle.rules.proofs.Sums.{sum-more}
+use Rattle.rules.proofs.Moves.{due-le, sumFrom, sum-split, all-due, remaining-sweep}
+use Rattle.record.specs.Layout.{stateIn, hostIn, configIn, driverOf, byteOf}
+use Rattle.record.proofs.Laws.{read-rebound}
+use Rattle.bind.specs.Moves.{bytesAfter, moveBytes, movesBytes, sweepBytes}
+
+-- a test that is turned round
+pub not-true : (b : Bool) → not b ≡ true → b ≡ false
+not-true true e = sym e
+not-true false e = refl
+
+pub not-false : (b : Bool) → not b ≡ false → b ≡ true
+not-false true e = refl
+not-false false e = sym e
+
+-- the target of a queue, by its adapter and its domain
+pub target-by : (h : HostMasks) (c : Config) (a d : ℕ) → d < 256
+    → targetOf h c (a * 256 + d)
+    ≡ cond (c .adapters a && c .domains d) (cond (h .apmask a && h .aqmask d) Host (cond (leb 10 (c .types a)) Passthrough Unbound)) Unbound
+unfolding targetOf configured reserved
+target-by h c a d l = rw (in-product (c .adapters) (c .domains) a d l, in-product (h .apmask) (h .aqmask) a d l, queue-apid a d l)
+
+-- ---- moves
+
+-- a queue that is given the driver it has
+same-driver : (n : ℕ) (ds : ℕ → Driver) (q : ℕ) → ds q ≡ rebound n (ds n) ds q
+unfolding rebound
+same-driver n ds q = go (eqb q n) refl
+  where
+    go : (b : Bool) → eqb q n ≡ b → ds q ≡ cond b (ds n) (ds q)
+    go true e = ap ds (eqb-true q n e)
+    go false e = refl
+
+-- the bytes after any answer are read as the drivers after it
+read-after : (ws qs : List ℕ) (n : ℕ) (m : Moved) → n < length qs
+    → stateIn ws (bytesAfter m n qs)
+    ≡ record {
+      limits = stateIn ws qs .limits;
+      host = stateIn ws qs .host;
+      config = stateIn ws qs .config;
+      device = stateIn ws qs .device;
+      driver = rebound n (after (stateIn ws qs .driver n) m) (stateIn ws qs .driver);
+    }
+unfolding bytesAfter after
+read-after ws qs n Idle h =
+    let s = stateIn ws qs in
+    let e = fun-ext (same-driver n (s .driver)) in
+    λ i. record { limits = s .limits; host = s .host; config = s .config; device = s .device; driver = e i }
+read-after ws qs n Released h = read-rebound qs n Unbound ws h
+read-after ws qs n BoundHost h = read-rebound qs n Host ws h
+read-after ws qs n BoundPassthrough h = read-rebound qs n Passthrough ws h
+
+pub read-move : (ws qs : List ℕ) (n : ℕ) → n < length qs → stateIn ws (moveBytes ws n qs) ≡ move n (stateIn ws qs)
+unfolding moveBytes move
+read-move ws qs n h = read-after ws qs n (moveAnswer n (stateIn ws qs)) h
+
+after-length : (m : Moved) (n : ℕ) (qs : List ℕ) → length (bytesAfter m n qs) ≡ length qs
+unfolding bytesAfter
+after-length Idle n qs = refl
+after-length Released n qs = simp length-set
+after-length BoundHost n qs = simp length-set
+after-length BoundPassthrough n qs = simp length-set
+
+pub move-length : (ws qs : List ℕ) (n : ℕ) → length (moveBytes ws n qs) ≡ length qs
+unfolding moveBytes
+move-length ws qs n = after-length (moveAnswer n (stateIn ws qs)) n qs
+
+-- the bytes of the other queues
+after-other : (m : Moved) (n j : ℕ) (qs : List ℕ) → (j ≡ n → ⊥) → getD (bytesAfter m n qs) j 0 ≡ getD qs j 0
+unfolding bytesAfter
+after-other Idle n j qs h = refl
+after-other Released n j qs h = getD-set-other qs n j (byteOf Unbound) 0 h
+after-other BoundHost n j qs h = getD-set-other qs n j (byteOf Host) 0 h
+after-other BoundPassthrough n j qs h = getD-set-other qs n j (byteOf Passthrough) 0 h
+
+pub move-other : (ws qs : List ℕ) (n j : ℕ) → (j ≡ n → ⊥) → getD (moveBytes ws n qs) j 0 ≡ getD qs j 0
+unfolding moveBytes
+move-other ws qs n j h = after-other (moveAnswer n (stateIn ws qs)) n j qs h
+
+pub read-moves : (ws : List ℕ) (m n : ℕ) (qs : List ℕ) → n < length qs → stateIn ws (movesBytes ws m n qs) ≡ moves m n (stateIn ws qs)
+unfolding movesBytes moves
+read-moves ws zero n qs h = refl
+read-moves ws (suc m) n qs h =
+    read-moves ws m n (moveBytes ws n qs) (omega (arith, move-length ws qs n)) ∙ ap (moves m n) (read-move ws qs n h)
+
+pub moves-length : (ws : List ℕ) (m n : ℕ) (qs : List ℕ) → length (movesBytes ws m n qs) ≡ length qs
+unfolding movesBytes
+moves-length ws zero n qs = refl
+moves-length ws (suc m) n qs = moves-length ws m n (moveBytes ws n qs) ∙ move-length ws qs n
+
+pub moves-other-byte : (ws : List ℕ) (m n : ℕ) (qs : List ℕ) (j : ℕ) → (j ≡ n → ⊥) → getD (movesBytes ws m n qs) j 0 ≡ getD qs j 0
+unfolding movesBytes
+moves-other-byte ws zero n qs j h = refl
+moves-other-byte ws (suc m) n qs j h = moves-other-byte ws m n (moveBytes ws n qs) j h ∙ move-other ws qs n j h
+
+-- what a move answers, by the queue's byte and its target
+pub answer-read : (ws qs : List ℕ) (n : ℕ) → moved (driverOf (getD qs n 0)) (targetOf (hostIn ws) (configIn ws) n) ≡ moveAnswer n (stateIn ws qs)
+unfolding moveAnswer stateIn
+answer-read ws qs n = refl
+
+-- the bytes after a move whose answer is known
+pub bytes-by : (ws qs : List ℕ) (n : ℕ) (m : Moved) → m ≡ moveAnswer n (stateIn ws qs) → bytesAfter m n qs ≡ moveBytes ws n qs
+unfolding moveBytes
+bytes-by ws qs n m e = ap (λ (x : Moved). bytesAfter x n qs) e
+
+-- no move, one and two
+pub no-moves : (ws : List ℕ) (n : ℕ) (qs : List ℕ) → movesBytes ws 0 n qs ≡ qs
+unfolding movesBytes
+no-moves ws n qs = refl
+
+pub one-move : (ws : List ℕ) (n : ℕ) (qs : List ℕ) → movesBytes ws 1 n qs ≡ moveBytes ws n qs
+unfolding movesBytes
+one-move ws n qs = refl
+
+pub two-moves : (ws : List ℕ) (n : ℕ) (qs : List ℕ) → movesBytes ws 2 n qs ≡ moveBytes ws n (moveBytes ws n qs)
+unfolding movesBytes
+two-moves ws n qs = refl
+
+-- ---- what is due
+
+-- by the queue's byte and its target
+pub due-read : (ws qs : List ℕ) (j : ℕ) → dueAt (stateIn ws qs) j ≡ due (driverOf (getD qs j 0)) (targetOf (hostIn ws) (configIn ws) j)
+unfolding dueAt stateIn
+due-read ws qs j = refl
+
+-- the queue of k's adapter and domain is k
+pub queue-split : (k : ℕ) → k < 65536 → k / 256 % 256 * 256 + k % 256 ≡ k
+queue-split k h = omega arith
+
+pub due-split : (ws qs : List ℕ) (k : ℕ) → k < 65536
+    → due (driverOf (getD qs (k / 256 % 256 * 256 + k % 256) 0)) (targetOf (hostIn ws) (configIn ws) (k / 256 % 256 * 256 + k % 256))
+    ≡ dueAt (stateIn ws qs) k
+due-split ws qs k h = rw (queue-split k h) (sym (due-read ws qs k))
+
+pub due-two : (s : State) (j : ℕ) → dueAt s j ≤ 2
+unfolding dueAt
+due-two s j = due-le (s .driver j) (targetOf (s .host) (s .config) j)
+
+-- queues with the same byte
+pub due-byte : (ws qs rs : List ℕ) (j : ℕ) → getD qs j 0 ≡ getD rs j 0 → dueAt (stateIn ws qs) j ≡ dueAt (stateIn ws rs) j
+unfolding dueAt stateIn
+due-byte ws qs rs j e = ap (λ (b : ℕ). due (driverOf b) (targetOf (hostIn ws) (configIn ws) j)) e
+
+-- moves of one queue leave what is due of another
+pub due-moves-other : (ws : List ℕ) (m n : ℕ) (qs : List ℕ) (j : ℕ) → (j ≡ n → ⊥) → dueAt (stateIn ws (movesBytes ws m n qs)) j ≡ dueAt (stateIn ws qs) j
+due-moves-other ws m n qs j h = due-byte ws (movesBytes ws m n qs) qs j (moves-other-byte ws m n qs j h)
+
+-- ---- sweeps
+
+pub read-sweep : (ws : List ℕ) (n k b : ℕ) (qs : List ℕ) → k + n ≤ length qs → stateIn ws (sweepBytes ws n k b qs) ≡ sweepFrom n k b (stateIn ws qs)
+unfolding sweepBytes sweepFrom
+read-sweep ws zero k b qs h = refl
+read-sweep ws (suc n) k b qs h =
+    let m = min b (dueAt (stateIn ws qs) k) in
+    read-sweep ws n (suc k) (b - m) (movesBytes ws m k qs) (omega (arith, moves-length ws m k qs))
+    ∙ ap (sweepFrom n (suc k) (b - m)) (read-moves ws m k qs (omega arith))
+
+pub sweep-length : (ws : List ℕ) (n k b : ℕ) (qs : List ℕ) → length (sweepBytes ws n k b qs) ≡ length qs
+unfolding sweepBytes
+sweep-length ws zero k b qs = refl
+sweep-length ws (suc n) k b qs =
+    let m = min b (dueAt (stateIn ws qs) k) in
+    sweep-length ws n (suc k) (b - m) (movesBytes ws m k qs) ∙ moves-length ws m k qs
+
+-- one turn, of a queue that needs m moves of those that are left
+pub sweep-turn : (ws : List ℕ) (n k b m : ℕ) (qs : List ℕ) → 0 < n → m ≡ min b (dueAt (stateIn ws qs) k)
+    → sweepBytes ws n k b qs ≡ sweepBytes ws (n - 1) (k + 1) (b - m) (movesBytes ws m k qs)
+unfolding sweepBytes
+sweep-turn ws zero k b m qs h e = absurd (omega arith)
+sweep-turn ws (suc n) k b m qs h e =
+    let c : suc n - 1 ≡ n = omega arith in
+    rw (c, add-one, e)
+
+-- no queue is left
+pub sweep-none : (ws : List ℕ) (n k b : ℕ) (qs : List ℕ) → n ≡ 0 → sweepBytes ws n k b qs ≡ qs
+unfolding sweepBytes
+sweep-none ws n k b qs e = rw e
+
+-- no move is left
+pub sweep-nothing : (ws : List ℕ) (n k b : ℕ) (qs : List ℕ) → b ≡ 0 → sweepBytes ws n k b qs ≡ qs
+unfolding sweepBytes
+sweep-nothing ws zero k b qs e = refl
+sweep-nothing ws (suc n) k b qs e =
+    let m = min b (dueAt (stateIn ws qs) k) in
+    let z : m ≡ 0 = omega arith in
+    sweep-nothing ws n (suc k) (b - m) (movesBytes ws m k qs) (omega arith) ∙ ap (λ (i : ℕ). movesBytes ws i k qs) z ∙ no-moves ws k qs
+
+-- a sweep of n queues with b moves to make, come to queue k with some left and the bytes qs; it began with the bytes rs
+pub record Sweeping (ws rs : List ℕ) (n b k left : ℕ) (qs : List ℕ) : Type 0 where
+  pub below : k ≤ n
+  pub bytes : sweepBytes ws n 0 b rs ≡ sweepBytes ws (n - k) k left qs
+  pub made : b ≡ left + sumBelow k (dueAt (stateIn ws rs))
+  pub ahead : (j : ℕ) → k ≤ j → getD qs j 0 ≡ getD rs j 0
+
+pub sum-none : (f : ℕ → ℕ) → sumBelow 0 f ≡ 0
+unfolding sumBelow
+sum-none f = refl
+
+pub sweep-starts : (ws rs : List ℕ) (n b : ℕ) → Sweeping ws rs n b 0 b rs
+sweep-starts ws rs n b =
+    let e : n - 0 ≡ n = omega arith in
+    record {
+      below = omega arith;
+      bytes = ap (λ (i : ℕ). sweepBytes ws i 0 b rs) (sym e);
+      made = omega (arith, sum-none (dueAt (stateIn ws rs)));
+      ahead = λ j h. refl;
+    }
+
+module _ (ws rs : List ℕ) (n b k left : ℕ) (qs : List ℕ) (w : Sweeping ws rs n b k left qs) (more : k < n) where
+  -- what is due of the queue that the sweep has come to
+  pub due-now : dueAt (stateIn ws qs) k ≡ dueAt (stateIn ws rs) k
+  due-now = due-byte ws qs rs k (w .ahead k (le-refl k))
+
+  -- a turn that has moves enough
+  pub sweep-goes-on : (m : ℕ) → m ≡ dueAt (stateIn ws qs) k → m ≤ left → Sweeping ws rs n b (k + 1) (left - m) (movesBytes ws m k qs)
+  sweep-goes-on m e l =
+      let c : n - k - 1 ≡ n - (k + 1) = omega arith in
+      record {
+        below = omega arith;
+        bytes =
+            w .bytes ∙ sweep-turn ws (n - k) k left m qs (omega arith) (omega arith)
+            ∙ ap (λ (i : ℕ). sweepBytes ws i (k + 1) (left - m) (movesBytes ws m k qs)) c;
+        made = omega (arith, w .made, due-now, sum-more k (dueAt (stateIn ws rs)));
+        ahead = λ j h. moves-other-byte ws m k qs j (λ f. omega arith) ∙ w .ahead j (omega arith);
+      }
+
+  -- a turn that has not: the sweep ends here
+  pub sweep-stops : left < dueAt (stateIn ws qs) k → sweepBytes ws n 0 b rs ≡ movesBytes ws left k qs
+  sweep-stops l =
+      w .bytes ∙ sweep-turn ws (n - k) k left left qs (omega arith) (omega arith)
+      ∙ sweep-nothing ws (n - k - 1) (k + 1) (left - left) (movesBytes ws left k qs) (omega arith)
+
+  pub made-fewer : left < dueAt (stateIn ws qs) k → b < sumBelow n (dueAt (stateIn ws rs))
+  made-fewer l =
+      let f = dueAt (stateIn ws rs) in
+      let c : k + 1 + (n - (k + 1)) ≡ n = omega arith in
+      let all : sumBelow (k + 1) f + sumFrom (n - (k + 1)) (k + 1) f ≡ sumBelow n f =
+      sum-split (n - (k + 1)) (k + 1) f ∙ ap (λ (i : ℕ). sumBelow i f) c in
+      omega (arith, w .made, due-now, sum-more k f, all)
+
+-- every queue is passed
+pub sweep-ends : (ws rs : List ℕ) (n b k left : ℕ) (qs : List ℕ) → Sweeping ws rs n b k left qs → n ≤ k
+    → (qs ≡ sweepBytes ws n 0 b rs) × (b ≡ left + sumBelow n (dueAt (stateIn ws rs)))
+sweep-ends ws rs n b k left qs w h =
+    let e : k ≡ n = omega (arith, w .below) in (
+      sym (w .bytes ∙ sweep-none ws (n - k) k left qs (omega arith)),
+      w .made ∙ ap (λ (i : ℕ). left + sumBelow i (dueAt (stateIn ws rs))) e,
+    )
+
+pub remaining-sum : (s : State) → sumBelow queues (dueAt s) ≡ remaining s
+unfolding remaining
+remaining-sum s = refl
+
+-- a sweep of all queues leaves what its budget did not reach
+pub remaining-bytes : (ws rs : List ℕ) (b : ℕ) → queues ≤ length rs
+    → remaining (stateIn ws (sweepBytes ws queues 0 b rs)) + min b (remaining (stateIn ws rs)) ≡ remaining (stateIn ws rs)
+remaining-bytes ws rs b h =
+    rw (read-sweep ws queues 0 b rs (omega arith), sym (all-due (stateIn ws rs)))
+    (remaining-sweep queues 0 b (stateIn ws rs) (omega arith) ∙ sym (all-due (stateIn ws rs)))
+
+-- moves remain after it exactly where the budget is below those before it
+pub sweep-more : (ws rs qs : List ℕ) (b : ℕ) → queues ≤ length rs → qs ≡ sweepBytes ws queues 0 b rs
+    → not (eqb (remaining (stateIn ws qs)) 0) ≡ ltb b (remaining (stateIn ws rs))
+sweep-more ws rs qs b h e =
+    ap (λ (x : List ℕ). not (eqb (remaining (stateIn ws x)) 0)) e
+    ∙ go (remaining (stateIn ws (sweepBytes ws queues 0 b rs))) (remaining (stateIn ws rs)) (remaining-bytes ws rs b h) (ltb b (remaining (stateIn ws rs))) refl
+  where
+    go : (x r : ℕ) → x + min b r ≡ r → (t : Bool) → ltb b r ≡ t → not (eqb x 0) ≡ t
+    go x r f true l = let below : b < r = ltb-true b r l in ap not (ne-eqb x 0 (λ z. omega arith))
+    go x r f false l = let past : r ≤ b = ltb-false b r l in ap not (eq-eqb x 0 (omega arith))

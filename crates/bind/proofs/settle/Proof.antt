@@ -1,0 +1,56 @@
+-- `settle` meets its contract: no move, one or two.
+-- Assumes nothing.
+use Prim.Native.Nat.{ℕ}
+use native.Mathlib.Omega.{arith}
+use mathlib.Core.Path.{_≡_, sym, ap, _∙_}
+use denote.Ref.{now}
+use Rattle.bind.specs.Moves.{moveBytes, movesBytes}
+use Rattle.bind.proofs.Laws.{queue-split, no-moves, one-move, two-moves}
+use borrow.Author.Needs.{needs}
+use Rattle.bind.proofs.settle.Statement.{statement}
+use Rattle.bind.proofs.settle.Tie as tie
+
+cast-t9 : tie.Need-cast-t9
+cast-t9 c = search needs
+
+cast-t9-2 : tie.Need-cast-t9-2
+cast-t9-2 c = search needs
+
+returns : tie.Need-returns
+returns c =
+    let a = c .before .args in
+    sym (ap (λ (i : ℕ). movesBytes (now (a .s)) i (a .k) (now (a .q))) (c .if1 .taken) ∙ no-moves (now (a .s)) (a .k) (now (a .q)))
+
+move-queue-requires : tie.Need-move-queue-requires
+move-queue-requires c κs = search needs
+
+returns-2 : tie.Need-returns-2
+returns-2 c =
+    let a = c .before .before .before .before .args in
+    c .before .move-queue .ensures .1
+    ∙ ap (λ (i : ℕ). moveBytes (now (a .s)) i (now (a .q))) (queue-split (a .k) (c .before .before .before .before .pre .0))
+    ∙ sym (ap (λ (i : ℕ). movesBytes (now (a .s)) i (a .k) (now (a .q))) (c .if2 .taken) ∙ one-move (now (a .s)) (a .k) (now (a .q)))
+
+move-queue-requires-2 : tie.Need-move-queue-requires-2
+move-queue-requires-2 c κs = search needs
+
+returns-3 : tie.Need-returns-3
+returns-3 c =
+    let a = c .before .before .before .before .before .before .args in
+    let two : a .n ≡ 2 = omega arith in
+    let e = queue-split (a .k) (c .before .before .before .before .before .before .pre .0) in
+    c .move-queue2 .ensures .1 ∙ ap (λ (i : ℕ). moveBytes (now (a .s)) i (c .before .before .before .move-queue .last .1 .0)) e
+    ∙ ap (moveBytes (now (a .s)) (a .k)) (c .before .before .before .move-queue .ensures .1 ∙ ap (λ (i : ℕ). moveBytes (now (a .s)) i (now (a .q))) e)
+    ∙ sym (ap (λ (i : ℕ). movesBytes (now (a .s)) i (a .k) (now (a .q))) two ∙ two-moves (now (a .s)) (a .k) (now (a .q)))
+
+pub settle-spec : {M : Type 1} → statement M
+settle-spec =
+    tie.close
+    (tie.spec
+    cast-t9
+    cast-t9-2
+    returns
+    move-queue-requires
+    returns-2
+    move-queue-requires-2
+    returns-3)

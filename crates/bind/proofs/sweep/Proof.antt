@@ -1,0 +1,117 @@
+-- `sweep` meets its contract. The invariant: what is left to do from queue k on gives the bytes of the whole sweep.
+-- Assumes nothing.
+use Prim.Native.Nat.{ℕ, _+_, _-_, _<_, min}
+use native.Mathlib.Omega.{arith}
+use mathlib.Core.Path.{_≡_, sym, ap, subst, _∙_}
+use mathlib.Core.List.{List}
+use mathlib.Core.Logic.{⊎-elim}
+use denote.Ref.{now}
+use borrow.Author.Tests.{lt-ltb, le-ltb}
+use Rattle.rules.specs.Queues.{dueAt, remaining, movesUsed}
+use Rattle.record.specs.Layout.{stateIn}
+use Rattle.bind.specs.Moves.{sweepBytes}
+use Rattle.bind.proofs.Laws.{Sweeping, due-two, sweep-starts, sweep-goes-on, sweep-stops, made-fewer, sweep-ends, remaining-sum, sweep-more}
+use borrow.Author.Needs.{needs}
+use Rattle.bind.proofs.sweep.Statement.{statement}
+use Rattle.bind.proofs.sweep.Tie as tie
+
+abbrev Inv-loop : tie.InvT-loop
+Inv-loop s q₀ budget most left₀ k₀ q left k = (most ≡ min budget 131072) × Sweeping s q₀ 65536 most k left q
+
+abbrev μ-loop : tie.MeasureT-loop
+μ-loop s q₀ budget most left₀ k₀ q left k = 65536 - k
+
+hold-drivers-requires : tie.Need-hold-drivers-requires Inv-loop μ-loop
+hold-drivers-requires c κs = search needs
+
+loop-holds : tie.Need-loop-holds Inv-loop μ-loop
+loop-holds c =
+    let a = c .before .before .before .args in
+    (⊎-elim (λ w. omega arith) (λ w. omega arith) (c .if1 .came), sweep-starts (now (a .s)) (now (a .q)) 65536 (c .if1 .most))
+
+due-at-requires : tie.Need-due-at-requires Inv-loop μ-loop
+due-at-requires c κs = search needs
+
+settle-requires : tie.Need-settle-requires Inv-loop μ-loop
+settle-requires c κs =
+    let l = c .before .before .before .before .before .loop in
+    (search needs, omega (arith, c .before .before .due-at .ensures, due-two (stateIn (now (c .before .before .before .before .before .before .before .before .before .args .s)) (l .q)) (l .k)))
+
+returns : tie.Need-returns Inv-loop μ-loop
+unfolding movesUsed
+returns c =
+    let ws = now (c .before .before .before .before .before .before .before .before .before .before .args .s) in
+    let rs = now (c .before .before .before .before .before .before .before .before .before .before .args .q) in
+    let most = c .before .before .before .before .before .before .before .if1 .most in
+    let l = c .before .before .before .before .before .before .loop in
+    let short : l .left < dueAt (stateIn ws (l .q)) (l .k) = omega (arith, c .before .before .before .due-at .ensures) in
+    let fewer : most < remaining (stateIn ws rs) =
+    omega (arith, made-fewer ws rs 65536 most (l .k) (l .left) (l .q) (l .inv .1) (omega arith) short, remaining-sum (stateIn ws rs)) in
+    let bytes : c .settle .last .1 .0 ≡ sweepBytes ws 65536 0 most rs =
+    c .settle .ensures ∙ sym (sweep-stops ws rs 65536 most (l .k) (l .left) (l .q) (l .inv .1) (omega arith) short) in (
+      omega (arith, l .inv .0),
+      (
+        sym (sweep-more ws rs (c .settle .last .1 .0) most (omega (arith, c .before .before .before .before .before .before .before .before .hold-drivers .ensures .long)) bytes ∙ lt-ltb most (remaining (stateIn ws rs)) fewer),
+        bytes ∙ ap (λ (b : ℕ). sweepBytes ws 65536 0 b rs) (l .inv .0),
+      ),
+    )
+
+settle-requires-2 : tie.Need-settle-requires-2 Inv-loop μ-loop
+settle-requires-2 c κs =
+    let l = c .before .before .before .before .before .loop in
+    (search needs, omega (arith, c .before .before .due-at .ensures, due-two (stateIn (now (c .before .before .before .before .before .before .before .before .before .args .s)) (l .q)) (l .k)))
+
+add-k : tie.Need-add-k Inv-loop μ-loop
+add-k c = search needs
+
+loop-less : tie.Need-loop-less Inv-loop μ-loop
+loop-less c = search needs
+
+loop-again : tie.Need-loop-again Inv-loop μ-loop
+loop-again c =
+    let ws = now (c .before .before .before .before .before .before .before .before .before .before .before .args .s) in
+    let rs = now (c .before .before .before .before .before .before .before .before .before .before .before .args .q) in
+    let most = c .before .before .before .before .before .before .before .before .if1 .most in
+    let l = c .before .before .before .before .before .before .before .loop in
+    let m = c .before .before .before .before .due-at .result in (
+      l .inv .0,
+      subst (λ (qs : List ℕ). Sweeping ws rs 65536 most (l .k + 1) (l .left - m) qs) (sym (c .before .settle2 .ensures))
+          (sweep-goes-on ws rs 65536 most (l .k) (l .left) (l .q) (l .inv .1) (omega arith) m (c .before .before .before .before .due-at .ensures) (omega arith)),
+    )
+
+sub-made : tie.Need-sub-made Inv-loop μ-loop
+sub-made c = omega (arith, c .before .before .before .loop .inv .1 .made)
+
+returns-2 : tie.Need-returns-2 Inv-loop μ-loop
+unfolding movesUsed
+returns-2 c =
+    let ws = now (c .before .before .before .before .before .before .before .args .s) in
+    let rs = now (c .before .before .before .before .before .before .before .args .q) in
+    let most = c .before .before .before .before .if1 .most in
+    let l = c .before .before .before .loop in
+    let done = sweep-ends ws rs 65536 most (l .k) (l .left) (l .q) (l .inv .1) (omega arith) in
+    let enough : most ≡ l .left + remaining (stateIn ws rs) = omega (arith, done .1, remaining-sum (stateIn ws rs)) in (
+      omega (arith, l .inv .0),
+      (
+        sym (sweep-more ws rs (l .q) most (omega (arith, c .before .before .before .before .before .hold-drivers .ensures .long)) (done .0) ∙ le-ltb most (remaining (stateIn ws rs)) (omega arith)),
+        done .0 ∙ ap (λ (b : ℕ). sweepBytes ws 65536 0 b rs) (l .inv .0),
+      ),
+    )
+
+pub sweep-spec : {M : Type 1} → statement M
+sweep-spec =
+    tie.close
+    (tie.spec
+    Inv-loop
+    μ-loop
+    hold-drivers-requires
+    loop-holds
+    due-at-requires
+    settle-requires
+    returns
+    settle-requires-2
+    add-k
+    loop-less
+    loop-again
+    sub-made
+    returns-2)

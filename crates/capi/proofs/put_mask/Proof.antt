@@ -1,0 +1,82 @@
+-- `put_mask` meets its contract. The invariant: the first i bytes of the mask are pasted.
+-- Assumes nothing.
+use Prim.Native.Nat.{_-_, _≤_}
+use native.Mathlib.Omega.{arith}
+use native.Mathlib.Numerals.{add-one}
+use mathlib.Core.Path.{_≡_, ap, ap₂, _∙_}
+use lib.ListN.{length}
+use lib.Seq.{paste, paste-zero, paste-suc}
+use borrow.Author.Needs.{needs}
+use Rattle.mask.specs.Bits.{bits}
+use Rattle.capi.specs.Shown.{maskBytes}
+use Rattle.capi.proofs.Laws.{mask-long}
+use Rattle.capi.proofs.put_mask.Statement.{statement}
+use Rattle.capi.proofs.put_mask.Tie as tie
+
+abbrev Inv-loop : tie.InvT-loop
+Inv-loop out₀ at b i₀ out i = (i ≤ 32) × (length out ≡ length out₀) × (out ≡ paste out₀ at b i)
+
+abbrev μ-loop : tie.MeasureT-loop
+μ-loop out₀ at b i₀ out i = 32 - i
+
+to-bytes-requires : tie.Need-to-bytes-requires Inv-loop μ-loop
+to-bytes-requires c κs = search needs
+
+loop-holds : tie.Need-loop-holds Inv-loop μ-loop
+loop-holds c =
+    let a = c .before .before .args in
+    (search needs, search needs, paste-zero (a .out .now) (a .at) (c .to-bytes .result))
+
+array-read-out : tie.Need-array-read-out Inv-loop μ-loop
+array-read-out c = search needs
+
+add-out : tie.Need-add-out Inv-loop μ-loop
+add-out c = search needs
+
+slice-write-out : tie.Need-slice-write-out Inv-loop μ-loop
+slice-write-out c = search needs
+
+add-i : tie.Need-add-i Inv-loop μ-loop
+add-i c = search needs
+
+loop-less : tie.Need-loop-less Inv-loop μ-loop
+loop-less c = search needs
+
+loop-again : tie.Need-loop-again Inv-loop μ-loop
+unfolding maskBytes
+loop-again c =
+    let l = c .before .loop in
+    let a = c .before .before .before .before .args in
+    let b = c .before .before .to-bytes .result in
+    let bytes : b ≡ maskBytes (bits (a .m)) = c .before .before .to-bytes .ensures in (
+      search needs,
+      search needs,
+      rw (l .inv .2, add-one) (paste-suc (a .out .now) (a .at) b (l .i) 0 (omega arith) (omega (arith, ap length bytes, mask-long (bits (a .m))))),
+    )
+
+same-length : tie.Need-same-length Inv-loop μ-loop
+same-length c = search needs
+
+returns : tie.Need-returns Inv-loop μ-loop
+unfolding maskBytes
+returns c =
+    let a = c .before .before .before .before .args in
+    let full : c .before .loop .i ≡ 32 = omega arith in
+    c .before .loop .inv .2 ∙ ap₂ (paste (a .out .now) (a .at)) (c .before .before .to-bytes .ensures) full
+
+pub put-mask-spec : {M : Type 1} → statement M
+put-mask-spec =
+    tie.close
+    (tie.spec
+    Inv-loop
+    μ-loop
+    to-bytes-requires
+    loop-holds
+    array-read-out
+    add-out
+    slice-write-out
+    add-i
+    loop-less
+    loop-again
+    same-length
+    returns)

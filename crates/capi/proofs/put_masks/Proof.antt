@@ -1,0 +1,39 @@
+-- `put_masks` meets its contract: three pastes fill the 96 bytes.
+-- Assumes nothing.
+use Prim.Native.Nat.{ℕ}
+use native.Mathlib.Omega.{arith}
+use mathlib.Core.List.{List}
+use mathlib.Core.Path.{_≡_, ap, _∙_}
+use lib.ListN.{length}
+use lib.Seq.{paste}
+use Rattle.mask.specs.Bits.{bits}
+use Rattle.capi.specs.Shown.{maskBytes}
+use Rattle.capi.proofs.Laws.{mask-long, three-pasted}
+use borrow.Author.Needs.{needs}
+use Rattle.capi.proofs.put_masks.Statement.{statement}
+use Rattle.capi.proofs.put_masks.Tie as tie
+
+put-mask-requires : tie.Need-put-mask-requires
+put-mask-requires c κs = search needs
+
+put-mask-requires-2 : tie.Need-put-mask-requires-2
+put-mask-requires-2 c κs = search needs
+
+put-mask-requires-3 : tie.Need-put-mask-requires-3
+put-mask-requires-3 c κs = search needs
+
+returns : tie.Need-returns
+returns c =
+    let a = c .before .before .before .before .before .before .before .before .before .args in
+    let adapters = maskBytes (bits (a .m .adapters)) in
+    let domains = maskBytes (bits (a .m .domains)) in
+    let controls = maskBytes (bits (a .m .controls)) in
+    let long : length (a .out .now) ≡ 96 = omega arith in
+    c .put-mask3 .ensures
+    ∙ ap (λ (l : List ℕ). paste l 64 controls 32)
+    (c .before .before .put-mask2 .ensures ∙ ap (λ (l : List ℕ). paste l 32 domains 32) (c .before .before .before .before .put-mask .ensures))
+    ∙ three-pasted (a .out .now) adapters domains controls 32 (mask-long _) (mask-long _) (mask-long _) long
+
+pub put-masks-spec : {M : Type 1} → statement M
+put-masks-spec =
+    tie.close (tie.spec put-mask-requires put-mask-requires-2 put-mask-requires-3 returns)

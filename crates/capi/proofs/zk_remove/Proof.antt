@@ -1,0 +1,23 @@
+-- `zk_remove` meets its contract.
+-- Assumes nothing.
+use mathlib.Core.Path.{sym}
+use Rattle.capi.specs.Numbered.{Numbered}
+use borrow.Author.Needs.{needs}
+use Rattle.capi.proofs.zk_remove.Statement.{statement}
+use Rattle.capi.proofs.zk_remove.Tie as tie
+
+id-requires : tie.Need-id-requires
+id-requires c κs = search needs
+
+remove-requires : tie.Need-remove-requires
+remove-requires c κs = search needs
+
+number-requires : tie.Need-number-requires
+number-requires c κs = search needs
+
+returns : tie.Need-returns
+unfolding Numbered
+returns c = (c .before .remove .result, rw (c .before .before .id .ensures) at (c .before .remove .ensures), sym (c .number .ensures))
+
+pub zk-remove-spec : {M : Type 1} → statement M
+zk-remove-spec = tie.close (tie.spec id-requires remove-requires number-requires returns)

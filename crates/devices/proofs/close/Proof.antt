@@ -1,0 +1,68 @@
+-- `close` meets its contract: a refusal or the effect at each return.
+-- Assumes nothing.
+use Prim.Native.Nat.{ℕ}
+use mathlib.Core.List.{List}
+use mathlib.Core.Bool.{false, not, Bool·not-not}
+use mathlib.Core.Path.{sym, ap, _∙_}
+use borrow.Author.Needs.{needs}
+use Rattle.errno.specs.declared.Errno.the-variants.{Enoent, Einval}
+use Rattle.errno.specs.Errno.{numberOf}
+use Rattle.rules.specs.Commands.{placeOf, closeDevice, withDevice, withOpen}
+use Rattle.record.specs.Layout.{deviceIn, stateIn, putOpen}
+use Rattle.record.proofs.Laws.{refused-carried, read-open}
+use Rattle.lookup.proofs.Found.{unknown, done-carried}
+use Rattle.devices.proofs.Laws.{by-open}
+use Rattle.devices.proofs.close.Statement.{statement}
+use Rattle.devices.proofs.close.Tie as tie
+
+find-requires : tie.Need-find-requires
+find-requires c κs = search needs
+
+returns : tie.Need-returns
+unfolding closeDevice numberOf
+returns c =
+    let a = c .before .before .before .args in
+    refused-carried (closeDevice (a .i)) _ (a .s .now) Enoent
+    (λ qs. unknown (a .i) (a .s .now) qs (c .before .find .result) (c .before .find .ensures) _ (c .if1 .taken))
+
+is-open-requires : tie.Need-is-open-requires
+is-open-requires c κs = search needs
+
+returns-2 : tie.Need-returns-2
+unfolding closeDevice numberOf
+returns-2 c =
+    let a = c .before .before .before .before .before .before .args in
+    let f = c .before .before .before .before .find in
+    refused-carried (closeDevice (a .i)) _ (a .s .now) Einval
+    (λ qs. by-open (a .i) (a .s .now) qs (f .result) (f .ensures) (c .before .before .before .if1 .left) _ (ap not (sym (c .if2 .taken)) ∙ Bool·not-not _ ∙ c .before .is-open .ensures) _ _)
+
+hold-words-requires : tie.Need-hold-words-requires
+hold-words-requires c κs = search needs
+
+put-open-requires : tie.Need-put-open-requires
+put-open-requires c κs = search needs
+
+returns-3 : tie.Need-returns-3
+unfolding closeDevice stateIn
+returns-3 c =
+    let a = c .before .before .before .before .before .before .before .before .before .before .args in
+    let ws = a .s .now in
+    let f = c .before .before .before .before .before .before .before .before .find in
+    let there = c .before .before .before .before .before .before .before .if1 .left in
+    let opened = ap not (sym (c .before .before .before .before .if2 .left)) ∙ Bool·not-not _ ∙ c .before .before .before .before .before .is-open .ensures in
+    let place : ℕ → List ℕ = λ p. putOpen ws p false in
+    done-carried {effect = place (placeOf (a .i) (deviceIn ws))} (λ qs. withDevice (f .result) (withOpen false (deviceIn ws (f .result))) (stateIn ws qs)) (c .put-open .ensures ∙ ap place (f .ensures))
+    (λ qs. by-open (a .i) ws qs (f .result) (f .ensures) there _ opened _ _)
+    (λ qs. ap (λ (l : List ℕ). stateIn l qs) (ap place (sym (f .ensures))) ∙ read-open ws qs (f .result) (c .before .before .hold-words .ensures .long) there false)
+
+pub close-spec : {M : Type 1} → statement M
+close-spec =
+    tie.close
+    (tie.spec
+    find-requires
+    returns
+    is-open-requires
+    returns-2
+    hold-words-requires
+    put-open-requires
+    returns-3)

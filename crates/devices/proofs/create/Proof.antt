@@ -1,0 +1,70 @@
+-- `create` meets its contract: a refusal or the effect at each return.
+-- Assumes nothing.
+use Prim.Native.Nat.{ℕ}
+use mathlib.Core.List.{List}
+use mathlib.Core.Bool.{true}
+use mathlib.Core.Path.{refl, sym, ap, _∙_}
+use borrow.Author.Needs.{needs}
+use Rattle.errno.specs.declared.Errno.the-variants.{Eexist, Enospc}
+use Rattle.errno.specs.Errno.{numberOf}
+use Rattle.rules.specs.Commands.{freePlace, create, withDevice, newDevice}
+use Rattle.record.specs.Layout.{deviceIn, stateIn, putDevice}
+use Rattle.record.proofs.Laws.{refused-carried, read-new}
+use Rattle.lookup.proofs.Found.{done-carried}
+use Rattle.devices.proofs.Laws.{create-known, create-full, create-new}
+use Rattle.devices.proofs.create.Statement.{statement}
+use Rattle.devices.proofs.create.Tie as tie
+
+find-requires : tie.Need-find-requires
+find-requires c κs = search needs
+
+returns : tie.Need-returns
+unfolding numberOf
+returns c =
+    let a = c .before .before .before .args in
+    refused-carried (create (a .i)) _ (a .s .now) Eexist
+    (λ qs. create-known (a .i) (a .s .now) qs (c .before .find .result) _ (c .before .find .ensures) refl (c .if1 .taken))
+
+free-requires : tie.Need-free-requires
+free-requires c κs = search needs
+
+returns-2 : tie.Need-returns-2
+unfolding numberOf
+returns-2 c =
+    let a = c .before .before .before .before .before .before .args in
+    let f = c .before .before .before .before .find in
+    refused-carried (create (a .i)) _ (a .s .now) Enospc
+    (λ qs. create-full (a .i) (a .s .now) qs (f .result) (c .before .free .result) (f .ensures) (c .before .free .ensures)
+    (c .before .before .before .if1 .left) (c .if2 .taken))
+
+hold-words-requires : tie.Need-hold-words-requires
+hold-words-requires c κs = search needs
+
+put-device-requires : tie.Need-put-device-requires
+put-device-requires c κs = search needs
+
+returns-3 : tie.Need-returns-3
+returns-3 c =
+    let a = c .before .before .before .before .before .before .before .before .before .before .args in
+    let ws = a .s .now in
+    let f = c .before .before .before .before .before .before .before .before .find in
+    let e = c .before .before .before .before .before .free in
+    let place : ℕ → List ℕ = λ p. putDevice ws p true (a .i) in
+    done-carried {effect = place (freePlace (deviceIn ws))} (λ qs. withDevice (e .result) (newDevice (a .i)) (stateIn ws qs))
+    (c .put-device .ensures ∙ ap place (e .ensures))
+    (λ qs. create-new (a .i) ws qs (f .result) (e .result) (f .ensures) (e .ensures)
+    (c .before .before .before .before .before .before .before .if1 .left) (c .before .before .before .before .if2 .left))
+    (λ qs. ap (λ (l : List ℕ). stateIn l qs) (ap place (sym (e .ensures)))
+    ∙ read-new ws qs (e .result) (c .before .before .hold-words .ensures .long) (c .before .before .before .before .if2 .left) (a .i))
+
+pub create-spec : {M : Type 1} → statement M
+create-spec =
+    tie.close
+    (tie.spec
+    find-requires
+    returns
+    free-requires
+    returns-2
+    hold-words-requires
+    put-device-requires
+    returns-3)

@@ -1,0 +1,17 @@
+-- What drops an adapter from a guest's masks, read from the driver bytes.
+-- Assumes nothing.
+use Prim.Native.Nat.{ℕ, _+_, _*_}
+use mathlib.Core.Bool.{not, _&&_}
+use mathlib.Core.List.{List}
+use lib.ListN.{getD}
+use Rattle.mask.specs.Bits.{Bits, someBelow}
+use Rattle.rules.specs.Queues.{passed}
+use Rattle.record.specs.Layout.{driverOf}
+
+-- the queue of adapter a and domain d is wanted and not passed through
+unfoldable pub missing : List ℕ → Bits → ℕ → Bits
+missing qs domains a d = domains d && not (passed (driverOf (getD qs (a * 256 + d) 0)))
+
+-- some queue of adapter a and these domains is not passed through
+unfoldable pub heldBack : List ℕ → Bits → Bits
+heldBack qs domains a = someBelow 256 (missing qs domains a)

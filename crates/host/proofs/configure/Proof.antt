@@ -1,0 +1,118 @@
+-- `configure` meets its contract: a refusal at each limit, or the effect.
+-- Assumes nothing.
+use mathlib.Core.Bool.{true, false}
+use mathlib.Core.Path.{refl, ap, _∙_}
+use borrow.Author.Needs.{needs}
+use Rattle.mask.specs.Bits.{Bits}
+use Rattle.rules.specs.State.{queues}
+use Rattle.record.specs.Layout.{unbind}
+use Rattle.record.proofs.Laws.{read-config}
+use Rattle.host.proofs.Laws.{above, by-limits, gone-away, config-refused, config-done, adapters-words, domains-words, controls-words}
+use Rattle.host.proofs.configure.Statement.{statement}
+use Rattle.host.proofs.configure.Tie as tie
+
+max-adapter-requires : tie.Need-max-adapter-requires
+max-adapter-requires c κs = search needs
+
+exceeds-requires : tie.Need-exceeds-requires
+exceeds-requires c κs = search needs
+
+returns : tie.Need-returns
+returns c =
+    let a = c .before .before .before .before .before .before .before .args in
+    let g = a .c in
+    config-refused g (a .s .now) (a .q .now)
+    (by-limits g (a .s .now) (a .q .now) true _ _
+    (above (g .adapters) _ _ _ _ (c .if1 .taken) (c .before .exceeds .ensures) (c .before .before .max-adapter .ensures))
+    refl
+    refl)
+
+max-domain-requires : tie.Need-max-domain-requires
+max-domain-requires c κs = search needs
+
+exceeds-requires-2 : tie.Need-exceeds-requires-2
+exceeds-requires-2 c κs = search needs
+
+returns-2 : tie.Need-returns-2
+returns-2 c =
+    let a = c .before .before .before .before .before .before .before .before .before .before .before .args in
+    let g = a .c in
+    config-refused g (a .s .now) (a .q .now)
+    (by-limits g (a .s .now) (a .q .now) false true _
+    (above (g .adapters) _ _ _ _ (c .before .before .before .before .if1 .left) (c .before .before .before .before .before .exceeds .ensures) (c .before .before .before .before .before .before .max-adapter .ensures))
+    (above (g .domains) _ _ _ _ (c .if2 .taken) (c .before .exceeds2 .ensures) (c .before .before .max-domain .ensures))
+    refl)
+
+max-domain-requires-2 : tie.Need-max-domain-requires-2
+max-domain-requires-2 c κs = search needs
+
+exceeds-requires-3 : tie.Need-exceeds-requires-3
+exceeds-requires-3 c κs = search needs
+
+returns-3 : tie.Need-returns-3
+returns-3 c =
+    let a = c .before .before .before .before .before .before .before .before .before .before .before .before .before .before .before .args in
+    let g = a .c in
+    config-refused g (a .s .now) (a .q .now)
+    (by-limits g (a .s .now) (a .q .now) false false true
+    (above (g .adapters) _ _ _ _ (c .before .before .before .before .before .before .before .before .if1 .left) (c .before .before .before .before .before .before .before .before .before .exceeds .ensures) (c .before .before .before .before .before .before .before .before .before .before .max-adapter .ensures))
+    (above (g .domains) _ _ _ _ (c .before .before .before .before .if2 .left) (c .before .before .before .before .before .exceeds2 .ensures) (c .before .before .before .before .before .before .max-domain .ensures))
+    (above (g .controls) _ _ _ _ (c .if3 .taken) (c .before .exceeds3 .ensures) (c .before .before .max-domain2 .ensures)))
+
+hold-words-requires : tie.Need-hold-words-requires
+hold-words-requires c κs = search needs
+
+hold-drivers-requires : tie.Need-hold-drivers-requires
+hold-drivers-requires c κs = search needs
+
+configured-adapters-requires : tie.Need-configured-adapters-requires
+configured-adapters-requires c κs = search needs
+
+configured-domains-requires : tie.Need-configured-domains-requires
+configured-domains-requires c κs = search needs
+
+unbind-requires : tie.Need-unbind-requires
+unbind-requires c κs = search needs
+
+put-configuration-requires : tie.Need-put-configuration-requires
+put-configuration-requires c κs = search needs
+
+returns-4 : tie.Need-returns-4
+returns-4 c =
+    let a = c .before .before .before .before .before .before .before .before .before .before .before .before .before .before .before .before .before .before .before .before .before .before .before .before .before .before .before .args in
+    let owned = c .before .before .before .before .before .before .before .before .before .before .before .before .before .before .before .before .before .before .before .before .before .before .before .before .before .before .before .good .1 .1 .0 in
+    let g = a .c in
+    let ws = a .s .now in
+    let qs = a .q .now in
+    config-done g ws qs
+    (by-limits g ws qs false false false
+    (above (g .adapters) _ _ _ _ (c .before .before .before .before .before .before .before .before .before .before .before .before .before .before .before .before .before .before .before .before .if1 .left) (c .before .before .before .before .before .before .before .before .before .before .before .before .before .before .before .before .before .before .before .before .before .exceeds .ensures) (c .before .before .before .before .before .before .before .before .before .before .before .before .before .before .before .before .before .before .before .before .before .before .max-adapter .ensures))
+    (above (g .domains) _ _ _ _ (c .before .before .before .before .before .before .before .before .before .before .before .before .before .before .before .before .if2 .left) (c .before .before .before .before .before .before .before .before .before .before .before .before .before .before .before .before .before .exceeds2 .ensures) (c .before .before .before .before .before .before .before .before .before .before .before .before .before .before .before .before .before .before .max-domain .ensures))
+    (above (g .controls) _ _ _ _ (c .before .before .before .before .before .before .before .before .before .before .before .before .if3 .left) (c .before .before .before .before .before .before .before .before .before .before .before .before .before .exceeds3 .ensures) (c .before .before .before .before .before .before .before .before .before .before .before .before .before .before .max-domain2 .ensures)))
+    (c .put-configuration .ensures)
+    (c .before .before .unbind .ensures
+    ∙ ap (λ (u : Bits). unbind qs u queues)
+    (gone-away g ws qs _ _ (c .before .before .before .before .before .configured-adapters .ensures) (c .before .before .before .configured-domains .ensures)))
+    (read-config ws g (c .before .before .before .before .before .before .before .before .before .before .hold-words .ensures .long) (adapters-words g owned) (domains-words g owned) (controls-words g owned) qs
+    (c .before .before .before .before .before .before .before .before .hold-drivers .ensures .long))
+
+pub configure-spec : {M : Type 1} → statement M
+configure-spec =
+    tie.close
+    (tie.spec
+    max-adapter-requires
+    exceeds-requires
+    returns
+    max-domain-requires
+    exceeds-requires-2
+    returns-2
+    max-domain-requires-2
+    exceeds-requires-3
+    returns-3
+    hold-words-requires
+    hold-drivers-requires
+    configured-adapters-requires
+    configured-domains-requires
+    unbind-requires
+    put-configuration-requires
+    returns-4)

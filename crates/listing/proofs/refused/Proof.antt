@@ -1,0 +1,13 @@
+-- `refused` meets its contract.
+-- Assumes nothing.
+use Rattle.rules.specs.Commands.{answered}
+use borrow.Author.Needs.{needs}
+use Rattle.listing.proofs.refused.Statement.{statement}
+use Rattle.listing.proofs.refused.Tie as tie
+
+returns : tie.Need-returns
+unfolding answered
+returns c = search needs
+
+pub refused-spec : {M : Type 1} → statement M
+refused-spec = tie.close (tie.spec returns)

@@ -1,0 +1,138 @@
+// Lists a device's matrix as text, part by part.
+//
+// Rests on errno, mask, rules, record, lookup and guest.
+use errno::Errno;
+use mask::Mask;
+use record::PLACES;
+use record::WORDS;
+use rules::Answer;
+use rules::Id;
+use rules::Masks;
+use rules::Matrix;
+ghost use Prim.Native.Nat.{_+_, _≤_, _<_};
+ghost use mathlib.Core.Path.{_≡_};
+ghost use mathlib.Core.List.{_++_};
+ghost use lib.ListN.{length, take, drop};
+ghost use Rattle.errno.specs.Errno.{numberOf};
+ghost use Rattle.mask.specs.Bits.{bits};
+ghost use Rattle.rules.specs.State.{inProduct, queues};
+ghost use Rattle.rules.specs.Commands.{answered};
+ghost use Rattle.listing.specs.Lines.{hexDigit, lineOf, queuesAt};
+ghost use Rattle.listing.specs.Written.{Written};
+ghost use Rattle.listing.specs.Listed.{Listing};
+
+// What a listing answers: bytes written and the next place. A refused one wrote nothing and stays at its place.
+pub struct Listed {
+    pub answer: Answer,
+    pub written: usize,
+    pub next: usize,
+}
+
+// Writes the lines of the queues at or after a place, as many whole lines as fit into the buffer.
+pub fn list(
+    s: &[u64; WORDS],
+    q: &[u8; 65536],
+    i: Id,
+    w: Matrix,
+    place: usize,
+    buf: &mut [u8],
+) -> Listed
+    ensures { λ r. ⌜ Listing (now (s .entry)) (now (q .entry)) i w place (now (buf .entry)) (now (buf .exit)) r ⌝ }
+{
+    let p = lookup::find(s, i);
+    if PLACES <= p {
+        return refused(Errno::Enoent, place);
+    }
+    if buf.len() < 8 {
+        return refused(Errno::Enospc, place);
+    }
+    let m = guest::masks_at(s, q, p, w);
+    let adapters = m.adapters;
+    let domains = m.domains;
+    write(adapters, domains, place, buf)
+}
+
+// How many lines a whole matrix has.
+pub fn lines(m: Masks) -> u32
+    ensures { λ r. ⌜ r ≡ length (queuesAt 0 (inProduct (bits (m .adapters)) (bits (m .domains)))) ⌝ }
+{
+    let adapters = m.adapters;
+    let domains = m.domains;
+    adapters.count() * domains.count()
+}
+
+fn refused(e: Errno, place: usize) -> Listed
+    ensures { λ r. ⌜ (answered (r .answer) ≡ numberOf e) × (r .written ≡ 0) × (r .next ≡ place) ⌝ }
+{
+    Listed {
+        answer: Answer::Refused(e),
+        written: 0,
+        next: place,
+    }
+}
+
+// Writes the lines of a product's queues from a place on.
+fn write(adapters: Mask, domains: Mask, place: usize, buf: &mut [u8]) -> Listed
+    requires { ⌜ 8 ≤ length (now buf) ⌝ }
+    ensures answer { λ r. ⌜ answered (r .answer) ≡ 0 ⌝ }
+    ensures lines { λ r. ⌜ Written (inProduct (bits adapters) (bits domains)) place (now (buf .entry)) (now (buf .exit)) (r .written) (r .next) ⌝ }
+{
+    let mut k = place;
+    let mut at = 0usize;
+    let mut last = 0usize;
+    while k < 65536 {
+        if in_product(adapters, domains, k) {
+            if buf.len() - at < 8 {
+                return Listed {
+                    answer: Answer::Done,
+                    written: at,
+                    next: last + 1,
+                };
+            }
+            put_line(buf, at, k);
+            at += 8;
+            last = k;
+        }
+        k += 1;
+    }
+    Listed {
+        answer: Answer::Done,
+        written: at,
+        next: 65536,
+    }
+}
+
+fn in_product(adapters: Mask, domains: Mask, k: usize) -> bool
+    requires { ⌜ k < queues ⌝ }
+    ensures { λ r. ⌜ r ≡ inProduct (bits adapters) (bits domains) k ⌝ }
+{
+    if adapters.has((k / 256 % 256) as u8) {
+        domains.has((k % 256) as u8)
+    } else {
+        false
+    }
+}
+
+// Writes the line of queue k at an index of the buffer.
+fn put_line(buf: &mut [u8], at: usize, k: usize)
+    requires { ⌜ (at + 8 ≤ length (now buf)) × (k < queues) ⌝ }
+    ensures { λ r. ⌜ now (buf .exit) ≡ take at (now (buf .entry)) ++ lineOf k ++ drop (at + 8) (now (buf .entry)) ⌝ }
+{
+    let a = (k / 256 % 256) as u8;
+    let d = (k % 256) as u8;
+    buf[at] = hex_digit(a / 16);
+    buf[at + 1] = hex_digit(a % 16);
+    buf[at + 2] = b'.';
+    buf[at + 3] = b'0';
+    buf[at + 4] = b'0';
+    buf[at + 5] = hex_digit(d / 16);
+    buf[at + 6] = hex_digit(d % 16);
+    buf[at + 7] = b'\n';
+}
+
+fn hex_digit(n: u8) -> u8
+    requires { ⌜ n < 16 ⌝ }
+    ensures { λ r. ⌜ r ≡ hexDigit n ⌝ }
+{
+    if n < 10 { b'0' + n } else { b'a' - 10 + n % 16 }
+}

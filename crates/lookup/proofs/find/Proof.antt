@@ -1,0 +1,71 @@
+-- `find` meets its contract. The loop's invariant: the first of the places left is the answer.
+-- Assumes nothing.
+use Prim.Native.Nat.{ℕ, _-_, _≤_}
+use native.Mathlib.Omega.{arith}
+use mathlib.Core.List.{List}
+use mathlib.Core.Bool.{_&&_}
+use mathlib.Core.Path.{_≡_, refl, sym, _∙_}
+use borrow.Author.Needs.{needs}
+use Rattle.mask.specs.Bits.{Bits}
+use Rattle.rules.specs.declared.Id.{Id}
+use Rattle.rules.specs.Commands.{firstFrom, placeOf, sameId}
+use Rattle.rules.proofs.Places.{turn-here, turn-next, turn-end}
+use Rattle.record.specs.Layout.{deviceIn}
+use Rattle.lookup.proofs.find.Statement.{statement}
+use Rattle.lookup.proofs.find.Tie as tie
+
+-- the device with the id is at a place
+abbrev here : Id → List ℕ → Bits
+here i ws j = deviceIn ws j .present && sameId i (deviceIn ws j .id)
+
+abbrev Inv-loop : tie.InvT-loop
+Inv-loop s i p₀ p =
+    (p ≤ 8) × (placeOf i (deviceIn s) ≡ firstFrom (8 - p) p (here i s))
+
+abbrev μ-loop : tie.MeasureT-loop
+μ-loop s i p₀ p = 8 - p
+
+loop-holds : tie.Need-loop-holds Inv-loop μ-loop
+unfolding placeOf
+loop-holds c = (omega arith, refl)
+
+is-at-requires : tie.Need-is-at-requires Inv-loop μ-loop
+is-at-requires c κs = search needs
+
+returns : tie.Need-returns Inv-loop μ-loop
+returns c =
+    let a = c .before .before .before .before .args in
+    let l = c .before .before .before .loop in
+    sym (l .inv .1 ∙ turn-here 8 (l .p) (here (a .i) (a .s .now)) (omega arith) (sym (c .before .is-at .ensures) ∙ c .if1 .taken))
+
+add-p : tie.Need-add-p Inv-loop μ-loop
+add-p c = search needs
+
+loop-less : tie.Need-loop-less Inv-loop μ-loop
+loop-less c = search needs
+
+loop-again : tie.Need-loop-again Inv-loop μ-loop
+loop-again c =
+    let a = c .before .before .before .before .args in
+    let l = c .before .before .before .loop in
+    (omega arith, l .inv .1 ∙ turn-next 8 (l .p) (here (a .i) (a .s .now)) (omega arith) (sym (c .before .is-at .ensures) ∙ c .if1 .left))
+
+returns-2 : tie.Need-returns-2 Inv-loop μ-loop
+returns-2 c =
+    let a = c .before .before .args in
+    let l = c .before .loop in
+    sym (l .inv .1 ∙ turn-end 8 (l .p) (here (a .i) (a .s .now)) (omega arith))
+
+pub find-spec : {M : Type 1} → statement M
+find-spec =
+    tie.close
+    (tie.spec
+    Inv-loop
+    μ-loop
+    loop-holds
+    is-at-requires
+    returns
+    add-p
+    loop-less
+    loop-again
+    returns-2)

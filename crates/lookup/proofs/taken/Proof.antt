@@ -1,0 +1,80 @@
+-- `taken` meets its contract. The loop's invariant: no device at a place passed shares a queue.
+-- Assumes nothing.
+use Prim.Native.Nat.{ℕ, _-_, _≤_}
+use native.Mathlib.Omega.{arith}
+use mathlib.Core.Logic.{⊎-elim}
+use mathlib.Core.Bool.{false, not}
+use mathlib.Core.Path.{_≡_, refl, sym, ap, _∙_}
+use borrow.Author.Tests.{eq-eqb, ne-eqb}
+use borrow.Author.Needs.{needs}
+use Rattle.mask.proofs.Laws.{some-intro}
+use Rattle.mask.specs.Bits.{bits, someBelow}
+use Rattle.rules.proofs.Products.{taken-by}
+use Rattle.record.specs.Layout.{deviceIn}
+use Rattle.lookup.proofs.Laws.{shared, none-next, and-yes, and-no}
+use Rattle.lookup.proofs.taken.Statement.{statement}
+use Rattle.lookup.proofs.taken.Tie as tie
+
+abbrev Inv-loop : tie.InvT-loop
+Inv-loop s p adapters domains j₀ j = (j ≤ 8) × (someBelow j (shared p (deviceIn s) (bits adapters) (bits domains)) ≡ false)
+
+abbrev μ-loop : tie.MeasureT-loop
+μ-loop s p adapters domains j₀ j = 8 - j
+
+loop-holds : tie.Need-loop-holds Inv-loop μ-loop
+unfolding someBelow
+loop-holds c = (omega arith, refl)
+
+shares-requires : tie.Need-shares-requires Inv-loop μ-loop
+shares-requires c κs = search needs
+
+returns : tie.Need-returns Inv-loop μ-loop
+returns c =
+    let a = c .before .before .before .before .before .args in
+    let j = c .before .before .before .before .loop .j in
+    let f = shared (a .p) (deviceIn (a .s .now)) (bits (a .adapters)) (bits (a .domains)) in
+    sym (taken-by (a .p) (deviceIn (a .s .now)) (bits (a .adapters)) (bits (a .domains))
+    ∙ some-intro 8 f j (omega arith)
+    (and-yes (ap not (ne-eqb j (a .p) (c .before .before .if1 .taken))) ∙ sym (c .before .shares .ensures) ∙ c .if2 .taken))
+
+add-j : tie.Need-add-j Inv-loop μ-loop
+add-j c = search needs
+
+loop-less : tie.Need-loop-less Inv-loop μ-loop
+loop-less c = search needs
+
+loop-again : tie.Need-loop-again Inv-loop μ-loop
+loop-again c =
+    let a = c .before .before .before .args in
+    let l = c .before .before .loop in
+    let f = shared (a .p) (deviceIn (a .s .now)) (bits (a .adapters)) (bits (a .domains)) in (
+      omega arith,
+      none-next (l .j) f (l .inv .1)
+          (⊎-elim
+          (λ w. and-yes (ap not (ne-eqb (l .j) (a .p) (w .0 .taken))) ∙ sym (w .1 .ensures) ∙ w .2 .left)
+          (λ w. and-no _ (ap not (eq-eqb (l .j) (a .p) (w .left))))
+          (c .if1 .came)),
+    )
+
+returns-2 : tie.Need-returns-2 Inv-loop μ-loop
+returns-2 c =
+    let a = c .before .before .args in
+    let l = c .before .loop in
+    let f = shared (a .p) (deviceIn (a .s .now)) (bits (a .adapters)) (bits (a .domains)) in
+    let last : l .j ≡ 8 = omega arith in
+    sym (taken-by (a .p) (deviceIn (a .s .now)) (bits (a .adapters)) (bits (a .domains))
+    ∙ ap (λ (n : ℕ). someBelow n f) (sym last) ∙ l .inv .1)
+
+pub taken-spec : {M : Type 1} → statement M
+taken-spec =
+    tie.close
+    (tie.spec
+    Inv-loop
+    μ-loop
+    loop-holds
+    shares-requires
+    returns
+    add-j
+    loop-less
+    loop-again
+    returns-2)

@@ -1,0 +1,161 @@
+/*
+ * The three guests of the kernel's vfio-ap paper, from a bare record to running. Then the accident: a rehearsal guest asks
+ * for a queue of a live one, and is refused. Prints a line for each step; guests.expected has them, worked out by hand.
+ */
+#include <stdio.h>
+#include <string.h>
+
+#include "zokormendu.h"
+
+static uint64_t words[ZK_WORDS];
+static uint8_t drivers[ZK_QUEUES];
+
+struct guest {
+    const char *name;
+    uint8_t id[ZK_ID_BYTES];
+};
+
+static const struct guest guest1 = {"Guest1", {1}};
+static const struct guest guest2 = {"Guest2", {2}};
+static const struct guest guest3 = {"Guest3", {3}};
+static const struct guest rehearsal = {"Rehearsal", {4}};
+
+static void say(uint8_t answer)
+{
+    uint8_t name[ZK_NAME_BYTES];
+    if (answer == 0) {
+        puts("ok");
+        return;
+    }
+    size_t length = zk_errno_name(answer, name);
+    printf("refused %.*s\n", (int)length, (const char *)name);
+}
+
+static void create(const struct guest *g)
+{
+    printf("create %s: ", g->name);
+    say(zk_create(words, zk_id_hi(g->id), zk_id_lo(g->id)));
+}
+
+static void assign(const struct guest *g, uint8_t kind, const char *text)
+{
+    printf("assign %s %s %s: ", g->name, kind == ZK_ADAPTER ? "adapter" : "domain", text);
+    say(zk_assign(words, zk_id_hi(g->id), zk_id_lo(g->id), kind, (const uint8_t *)text, strlen(text)));
+}
+
+static void open_device(const struct guest *g)
+{
+    printf("open %s: ", g->name);
+    say(zk_open(words, zk_id_hi(g->id), zk_id_lo(g->id)));
+}
+
+static void set_apmask(const char *text)
+{
+    printf("apmask %s: ", text);
+    say(zk_set_apmask(words, (const uint8_t *)text, strlen(text)));
+}
+
+static void set_aqmask(const char *text)
+{
+    printf("aqmask %s: ", text);
+    say(zk_set_aqmask(words, (const uint8_t *)text, strlen(text)));
+}
+
+static void set_bit(uint8_t *mask, unsigned n)
+{
+    mask[n / 8] |= (uint8_t)(0x80 >> n % 8);
+}
+
+static void configure(void)
+{
+    static const unsigned adapters[] = {5, 6};
+    static const unsigned domains[] = {4, 0x47, 0xab, 0xff};
+    uint8_t configuration[ZK_CONFIG_BYTES] = {0};
+    for (size_t i = 0; i < sizeof adapters / sizeof *adapters; i++) {
+        set_bit(configuration, adapters[i]);
+        /* CEX5; from 10, CEX4, on an adapter can be passed through */
+        configuration[ZK_MASKS_BYTES + adapters[i]] = 11;
+    }
+    for (size_t i = 0; i < sizeof domains / sizeof *domains; i++)
+        set_bit(configuration + ZK_MASK_BYTES, domains[i]);
+    printf("configure adapters 5,6 and domains 4,0x47,0xab,0xff: ");
+    say(zk_configure(words, drivers, configuration));
+}
+
+static void sweep(void)
+{
+    uint8_t more;
+    printf("remaining: %u\n", (unsigned)zk_remaining(words, drivers));
+    uint32_t used = zk_sweep(words, drivers, ZK_MOST_MOVES, &more);
+    printf("sweep: %u moves, %s\n", (unsigned)used, more ? "more remain" : "none remain");
+}
+
+/* What the guest gets, on one line. The buffer holds two lines, so a longer listing takes several calls. */
+static void list(const struct guest *g)
+{
+    uint8_t buffer[2 * ZK_LINE_BYTES];
+    size_t place = 0;
+    printf("list %s:", g->name);
+    while (place < ZK_QUEUES) {
+        size_t written, next;
+        uint8_t answer = zk_list(words, drivers, zk_id_hi(g->id), zk_id_lo(g->id), ZK_GUEST, place, buffer, sizeof buffer,
+                                 &written, &next);
+        if (answer != 0) {
+            putchar(' ');
+            say(answer);
+            return;
+        }
+        for (size_t i = 0; i < written; i += ZK_LINE_BYTES)
+            printf(" %.*s", ZK_LINE_BYTES - 1, (const char *)buffer + i);
+        place = next;
+    }
+    putchar('\n');
+}
+
+static void usable(const struct guest *g, uint8_t apid, uint8_t apqi)
+{
+    int yes = zk_usable(words, drivers, zk_id_hi(g->id), zk_id_lo(g->id), apid, apqi);
+    printf("%s can use %02x.%04x: %s\n", g->name, (unsigned)apid, (unsigned)apqi, yes ? "yes" : "no");
+}
+
+int main(void)
+{
+    printf("fresh: ");
+    say(zk_fresh(words, drivers, 255, 255));
+
+    /* secure the queues, so that the host's drivers leave them */
+    set_apmask("-5,-6");
+    set_aqmask("-4,-0x47,-0xab,-0xff");
+    configure();
+    sweep();
+
+    create(&guest1);
+    create(&guest2);
+    create(&guest3);
+    assign(&guest1, ZK_ADAPTER, "5");
+    assign(&guest1, ZK_ADAPTER, "6");
+    assign(&guest1, ZK_DOMAIN, "4");
+    assign(&guest1, ZK_DOMAIN, "0xab");
+    assign(&guest2, ZK_ADAPTER, "5");
+    assign(&guest2, ZK_DOMAIN, "0x47");
+    assign(&guest2, ZK_DOMAIN, "0xff");
+    assign(&guest3, ZK_ADAPTER, "6");
+    assign(&guest3, ZK_DOMAIN, "0x47");
+    assign(&guest3, ZK_DOMAIN, "0xff");
+    open_device(&guest1);
+    open_device(&guest2);
+    open_device(&guest3);
+    list(&guest1);
+    list(&guest2);
+    list(&guest3);
+
+    /* 05.0004 is Guest1's. Adapter 5 alone is no queue yet; domain 4 would make it one. */
+    create(&rehearsal);
+    assign(&rehearsal, ZK_ADAPTER, "5");
+    assign(&rehearsal, ZK_DOMAIN, "4");
+    open_device(&rehearsal);
+    list(&rehearsal);
+    usable(&guest1, 5, 4);
+    usable(&rehearsal, 5, 4);
+    return 0;
+}

@@ -1,0 +1,1764 @@
+//! Runs the static library beside a second implementation of its requirements, on random commands, moves and sweeps, and
+//! compares every answer and every byte of memory. The second one is written from the requirements, with sets of
+//! booleans and loops over queues, and shares nothing with the library.
+//!
+//! Arguments: the seed (default 1), the limit in seconds (default 120), and the most steps (default none).
+//! The same seed makes the same steps; the limits only end the run. Exit status 0: nothing differed, and each of the eight
+//! refusals was met.
+
+use std::fmt;
+use std::time::{Duration, Instant};
+
+const WORDS: usize = 406;
+const QUEUES: usize = 65_536;
+const PLACES: usize = 8;
+const CONFIG_BYTES: usize = 352;
+const NAMES: [(u8, &str); 8] = [
+    (2, "ENOENT"),
+    (16, "EBUSY"),
+    (17, "EEXIST"),
+    (19, "ENODEV"),
+    (22, "EINVAL"),
+    (28, "ENOSPC"),
+    (98, "EADDRINUSE"),
+    (99, "EADDRNOTAVAIL"),
+];
+
+/// Steps of the full phase, after each of which everything that can be asked is asked.
+const FULL_STEPS: u64 = 4_000;
+/// In the long phase the queues are asked about after each step, and the rest after each of these many.
+const SAMPLE: u64 = 64;
+/// Guard places on either side of what is lent.
+const EDGE: usize = 64;
+
+// ---------------------------------------------------------------------------------------------------------------------
+// The requirements once more.
+// ---------------------------------------------------------------------------------------------------------------------
+
+type Id = [u8; 16];
+
+const ADAPTER: usize = 0;
+const DOMAIN: usize = 1;
+const CONTROL: usize = 2;
+
+/// A set of numbers 0 to 255.
+#[derive(Clone, Copy)]
+struct Set([bool; 256]);
+
+impl Set {
+    const NONE: Set = Set([false; 256]);
+    const ALL: Set = Set([true; 256]);
+
+    fn has(&self, n: usize) -> bool {
+        self.0[n]
+    }
+
+    /// Byte 0 holds bits 0 to 7, and bit 0 is its most significant bit.
+    fn of_bytes(bytes: &[u8]) -> Set {
+        let mut set = Set::NONE;
+        for (k, byte) in bytes.iter().enumerate() {
+            for j in 0..8 {
+                set.0[8 * k + j] = byte & (128 >> j) != 0;
+            }
+        }
+        set
+    }
+
+    fn bytes(&self) -> [u8; 32] {
+        let mut bytes = [0; 32];
+        for (k, eight) in self.0.chunks(8).enumerate() {
+            bytes[k] = eight.iter().fold(0, |byte, &bit| byte << 1 | bit as u8);
+        }
+        bytes
+    }
+
+    fn of_words(words: &[u64]) -> Set {
+        let bytes: Vec<u8> = words.iter().flat_map(|w| w.to_be_bytes()).collect();
+        Set::of_bytes(&bytes)
+    }
+
+    fn words(&self) -> [u64; 4] {
+        let bytes = self.bytes();
+        let mut words = [0; 4];
+        for (k, eight) in bytes.chunks(8).enumerate() {
+            words[k] = u64::from_be_bytes(eight.try_into().unwrap());
+        }
+        words
+    }
+
+    fn any_above(&self, limit: u64) -> bool {
+        (0..256).any(|n| n as u64 > limit && self.has(n))
+    }
+}
+
+fn without_newline(text: &[u8]) -> &[u8] {
+    text.strip_suffix(b"\n").unwrap_or(text)
+}
+
+/// A number without its newline, or nothing where the text is bad.
+fn number(text: &[u8], most: u64) -> Option<u64> {
+    if text.is_empty() || text.len() > 16 {
+        return None;
+    }
+    let text = std::str::from_utf8(text).ok()?;
+    let (digits, base) = match text.strip_prefix("0x") {
+        Some(rest) => (rest, 16),
+        None if text.starts_with('0') => (text, 8),
+        None => (text, 10),
+    };
+    // from_str_radix would take a sign
+    if !digits.chars().all(|c| c.is_digit(base)) {
+        return None;
+    }
+    let value = u64::from_str_radix(digits, base).ok()?;
+    (value <= most).then_some(value)
+}
+
+/// A mask, or nothing where the text is bad.
+fn mask(text: &[u8], old: &Set) -> Option<Set> {
+    let text = without_newline(text);
+    if let Some(digits) = text.strip_prefix(b"0x") {
+        if digits.is_empty() || digits.len() > 64 {
+            return None;
+        }
+        let mut set = Set::NONE;
+        for (k, &c) in digits.iter().enumerate() {
+            let digit = (c as char).to_digit(16)?;
+            for j in 0..4 {
+                set.0[4 * k + j] = digit & (8 >> j) != 0;
+            }
+        }
+        return Some(set);
+    }
+    let mut set = *old;
+    for item in text.split(|&c| c == b',') {
+        let (sign, rest) = item.split_first()?;
+        let n = number(rest, 255)?;
+        set.0[n as usize] = match sign {
+            b'+' => true,
+            b'-' => false,
+            _ => return None,
+        };
+    }
+    Some(set)
+}
+
+#[derive(Clone, Copy, PartialEq, Debug)]
+enum Driver {
+    Unbound,
+    Host,
+    Passthrough,
+}
+
+#[derive(Clone, Copy)]
+struct Device {
+    // any value but 0 is yes
+    present: u64,
+    open: u64,
+    id: Id,
+    assigned: [Set; 3],
+}
+
+const NO_DEVICE: Device = Device { present: 0, open: 0, id: [0; 16], assigned: [Set::NONE; 3] };
+
+impl Device {
+    fn has_queue(&self, apid: usize, apqi: usize) -> bool {
+        self.present != 0 && self.assigned[ADAPTER].has(apid) && self.assigned[DOMAIN].has(apqi)
+    }
+}
+
+/// The record, kept so that every bit of the memory follows from it.
+struct Record {
+    highest: [u64; 2],
+    apmask: Set,
+    aqmask: Set,
+    configured: [Set; 3],
+    types: [u64; 256],
+    devices: [Device; PLACES],
+    drivers: Vec<u8>,
+}
+
+/// What a listing gives: the answer, the bytes and the next place.
+struct Listing {
+    answer: u8,
+    bytes: Vec<u8>,
+    next: usize,
+}
+
+impl Record {
+    fn new() -> Record {
+        Record {
+            highest: [0; 2],
+            apmask: Set::ALL,
+            aqmask: Set::ALL,
+            configured: [Set::NONE; 3],
+            types: [0; 256],
+            devices: [NO_DEVICE; PLACES],
+            drivers: vec![0; QUEUES],
+        }
+    }
+
+    fn read(words: &[u64], drivers: &[u8]) -> Record {
+        let set = |at: usize| Set::of_words(&words[at..at + 4]);
+        let mut record = Record::new();
+        record.highest = [words[0], words[1]];
+        record.apmask = set(2);
+        record.aqmask = set(6);
+        record.configured = [set(10), set(14), set(18)];
+        record.types.copy_from_slice(&words[22..278]);
+        for p in 0..PLACES {
+            let at = 278 + 16 * p;
+            let mut id = [0; 16];
+            id[..8].copy_from_slice(&words[at + 2].to_be_bytes());
+            id[8..].copy_from_slice(&words[at + 3].to_be_bytes());
+            record.devices[p] = Device {
+                present: words[at],
+                open: words[at + 1],
+                id,
+                assigned: [set(at + 4), set(at + 8), set(at + 12)],
+            };
+        }
+        record.drivers.copy_from_slice(drivers);
+        record
+    }
+
+    fn words(&self) -> Vec<u64> {
+        let mut words = Vec::with_capacity(WORDS);
+        words.extend(self.highest);
+        words.extend(self.apmask.words());
+        words.extend(self.aqmask.words());
+        for set in &self.configured {
+            words.extend(set.words());
+        }
+        words.extend(self.types);
+        for device in &self.devices {
+            let (hi, lo) = halves(&device.id);
+            words.extend([device.present, device.open, hi, lo]);
+            for set in &device.assigned {
+                words.extend(set.words());
+            }
+        }
+        words
+    }
+
+    fn highest(&self, kind: usize) -> u64 {
+        // control domains use the domain limit
+        self.highest[kind.min(DOMAIN)].min(255)
+    }
+
+    fn find(&self, id: &Id) -> Option<usize> {
+        (0..PLACES).find(|&p| self.devices[p].present != 0 && self.devices[p].id == *id)
+    }
+
+    fn reserved(&self, apid: usize, apqi: usize) -> bool {
+        self.apmask.has(apid) && self.aqmask.has(apqi)
+    }
+
+    fn driver(&self, apid: usize, apqi: usize) -> Driver {
+        match self.drivers[apid * 256 + apqi] {
+            1 => Driver::Host,
+            2 => Driver::Passthrough,
+            _ => Driver::Unbound,
+        }
+    }
+
+    fn target(&self, apid: usize, apqi: usize) -> Driver {
+        if !self.configured[ADAPTER].has(apid) || !self.configured[DOMAIN].has(apqi) {
+            Driver::Unbound
+        } else if self.reserved(apid, apqi) {
+            Driver::Host
+        } else if self.types[apid] >= 10 {
+            Driver::Passthrough
+        } else {
+            Driver::Unbound
+        }
+    }
+
+    fn fresh(&mut self, adapter: u64, domain: u64) -> u8 {
+        if adapter > 255 || domain > 255 {
+            return 22;
+        }
+        *self = Record::new();
+        self.highest = [adapter, domain];
+        0
+    }
+
+    fn create(&mut self, id: &Id) -> u8 {
+        if self.find(id).is_some() {
+            return 17;
+        }
+        match self.devices.iter().position(|v| v.present == 0) {
+            None => 28,
+            Some(p) => {
+                self.devices[p] = Device { present: 1, id: *id, ..NO_DEVICE };
+                0
+            }
+        }
+    }
+
+    fn remove(&mut self, id: &Id) -> u8 {
+        match self.find(id) {
+            None => 2,
+            Some(p) if self.devices[p].open != 0 => 16,
+            Some(p) => {
+                self.devices[p] = NO_DEVICE;
+                0
+            }
+        }
+    }
+
+    fn open(&mut self, id: &Id) -> u8 {
+        match self.find(id) {
+            None => 2,
+            Some(p) if self.devices[p].open != 0 => 16,
+            Some(p) => {
+                self.devices[p].open = 1;
+                0
+            }
+        }
+    }
+
+    fn close(&mut self, id: &Id) -> u8 {
+        match self.find(id) {
+            None => 2,
+            Some(p) if self.devices[p].open == 0 => 22,
+            Some(p) => {
+                self.devices[p].open = 0;
+                0
+            }
+        }
+    }
+
+    fn assign(&mut self, id: &Id, kind: usize, text: &[u8]) -> u8 {
+        let Some(n) = number(without_newline(text), 65_535) else { return 22 };
+        let Some(p) = self.find(id) else { return 2 };
+        if n > self.highest(kind) {
+            return 19;
+        }
+        let n = n as usize;
+        let device = self.devices[p];
+        if device.assigned[kind].has(n) {
+            return 0;
+        }
+        let mut new = Vec::new();
+        for other in 0..256 {
+            if kind == ADAPTER && device.assigned[DOMAIN].has(other) {
+                new.push((n, other));
+            }
+            if kind == DOMAIN && device.assigned[ADAPTER].has(other) {
+                new.push((other, n));
+            }
+        }
+        if new.iter().any(|&(a, d)| self.reserved(a, d)) {
+            return 99;
+        }
+        let elsewhere = |a, d| (0..PLACES).any(|o| o != p && self.devices[o].has_queue(a, d));
+        if new.iter().any(|&(a, d)| elsewhere(a, d)) {
+            return 98;
+        }
+        self.devices[p].assigned[kind].0[n] = true;
+        0
+    }
+
+    fn unassign(&mut self, id: &Id, kind: usize, text: &[u8]) -> u8 {
+        let Some(n) = number(without_newline(text), 65_535) else { return 22 };
+        let Some(p) = self.find(id) else { return 2 };
+        if n > self.highest(kind) {
+            return 19;
+        }
+        self.devices[p].assigned[kind].0[n as usize] = false;
+        0
+    }
+
+    fn takes_assigned(&self, apmask: &Set, aqmask: &Set) -> bool {
+        for device in &self.devices {
+            for apid in (0..256).filter(|&a| apmask.has(a)) {
+                for apqi in (0..256).filter(|&d| aqmask.has(d)) {
+                    if device.has_queue(apid, apqi) {
+                        return true;
+                    }
+                    // no queue of this adapter
+                    if !device.assigned[ADAPTER].has(apid) {
+                        break;
+                    }
+                }
+            }
+        }
+        false
+    }
+
+    fn set_apmask(&mut self, text: &[u8]) -> u8 {
+        let Some(new) = mask(text, &self.apmask) else { return 22 };
+        if self.takes_assigned(&new, &self.aqmask) {
+            return 98;
+        }
+        self.apmask = new;
+        0
+    }
+
+    fn set_aqmask(&mut self, text: &[u8]) -> u8 {
+        let Some(new) = mask(text, &self.aqmask) else { return 22 };
+        if self.takes_assigned(&self.apmask, &new) {
+            return 98;
+        }
+        self.aqmask = new;
+        0
+    }
+
+    fn configure(&mut self, bytes: &[u8]) -> u8 {
+        let new = [Set::of_bytes(&bytes[..32]), Set::of_bytes(&bytes[32..64]), Set::of_bytes(&bytes[64..96])];
+        if (0..3).any(|kind| new[kind].any_above(self.highest(kind))) {
+            return 19;
+        }
+        let old = self.configured;
+        self.configured = new;
+        for apid in 0..256 {
+            self.types[apid] = if new[ADAPTER].has(apid) { bytes[96 + apid] as u64 } else { 0 };
+            for apqi in 0..256 {
+                let before = old[ADAPTER].has(apid) && old[DOMAIN].has(apqi);
+                let after = new[ADAPTER].has(apid) && new[DOMAIN].has(apqi);
+                if before && !after {
+                    self.drivers[apid * 256 + apqi] = 0;
+                }
+            }
+        }
+        0
+    }
+
+    /// 0 idle, 1 released, 2 bound to host, 3 bound to passthrough.
+    fn move_queue(&mut self, apid: usize, apqi: usize) -> u8 {
+        let (driver, target) = (self.driver(apid, apqi), self.target(apid, apqi));
+        let (answer, byte) = match (driver, target) {
+            (d, t) if d == t => return 0,
+            (Driver::Unbound, Driver::Host) => (2, 1),
+            (Driver::Unbound, Driver::Passthrough) => (3, 2),
+            _ => (1, 0),
+        };
+        self.drivers[apid * 256 + apqi] = byte;
+        answer
+    }
+
+    fn remaining(&self) -> u32 {
+        let mut sum = 0;
+        for apid in 0..256 {
+            for apqi in 0..256 {
+                let (driver, target) = (self.driver(apid, apqi), self.target(apid, apqi));
+                if driver != target {
+                    sum += if driver != Driver::Unbound && target != Driver::Unbound { 2 } else { 1 };
+                }
+            }
+        }
+        sum
+    }
+
+    /// The moves used, and whether any remain.
+    fn sweep(&mut self, budget: u32) -> (u32, bool) {
+        let budget = budget.min(131_072);
+        let mut used = 0;
+        for apid in 0..256 {
+            for apqi in 0..256 {
+                while used < budget && self.move_queue(apid, apqi) != 0 {
+                    used += 1;
+                }
+            }
+        }
+        (used, self.remaining() != 0)
+    }
+
+    /// The guest masks of the device at a place.
+    fn guest(&self, p: usize) -> [Set; 3] {
+        let assigned = &self.devices[p].assigned;
+        let mut guest = [Set::NONE; 3];
+        for n in 0..256 {
+            guest[DOMAIN].0[n] = assigned[DOMAIN].has(n) && self.configured[DOMAIN].has(n);
+            guest[CONTROL].0[n] = assigned[CONTROL].has(n) && self.configured[CONTROL].has(n);
+        }
+        for n in 0..256 {
+            guest[ADAPTER].0[n] = self.guest_adapter(p, n);
+        }
+        guest
+    }
+
+    /// Whether the guest gets an adapter: one queue that is not bound to passthrough drops it.
+    fn guest_adapter(&self, p: usize, apid: usize) -> bool {
+        let assigned = &self.devices[p].assigned;
+        let kept = |d: usize| assigned[DOMAIN].has(d) && self.configured[DOMAIN].has(d);
+        assigned[ADAPTER].has(apid)
+            && self.configured[ADAPTER].has(apid)
+            && (0..256).all(|d| !kept(d) || self.driver(apid, d) == Driver::Passthrough)
+    }
+
+    fn usable(&self, id: &Id, apid: usize, apqi: usize) -> bool {
+        let Some(p) = self.find(id) else { return false };
+        let device = &self.devices[p];
+        device.open != 0
+            && device.assigned[DOMAIN].has(apqi)
+            && self.configured[DOMAIN].has(apqi)
+            && self.guest_adapter(p, apid)
+    }
+
+    fn matrix(&self, p: usize, matrix: u8) -> [Set; 3] {
+        if matrix == 0 { self.devices[p].assigned } else { self.guest(p) }
+    }
+
+    fn list(&self, id: &Id, matrix: u8, place: usize, length: usize) -> Listing {
+        let refused = |answer| Listing { answer, bytes: Vec::new(), next: place };
+        let Some(p) = self.find(id) else { return refused(2) };
+        if length < 8 {
+            return refused(28);
+        }
+        let sets = self.matrix(p, matrix);
+        let mut bytes = Vec::new();
+        let mut past = 0;
+        for queue in place.min(QUEUES)..QUEUES {
+            let (apid, apqi) = (queue / 256, queue % 256);
+            if !sets[ADAPTER].has(apid) || !sets[DOMAIN].has(apqi) {
+                continue;
+            }
+            if bytes.len() + 8 > length {
+                return Listing { answer: 0, bytes, next: past };
+            }
+            bytes.extend(format!("{apid:02x}.{apqi:04x}\n").bytes());
+            past = queue + 1;
+        }
+        Listing { answer: 0, bytes, next: QUEUES }
+    }
+}
+
+fn halves(id: &Id) -> (u64, u64) {
+    (u64::from_be_bytes(id[..8].try_into().unwrap()), u64::from_be_bytes(id[8..].try_into().unwrap()))
+}
+
+// ---------------------------------------------------------------------------------------------------------------------
+// The library, and the memory that is lent to it.
+// ---------------------------------------------------------------------------------------------------------------------
+
+mod library {
+    extern "C" {
+        pub fn zk_fresh(words: *mut u64, drivers: *mut u8, adapter: u64, domain: u64) -> u8;
+        pub fn zk_create(words: *mut u64, hi: u64, lo: u64) -> u8;
+        pub fn zk_remove(words: *mut u64, hi: u64, lo: u64) -> u8;
+        pub fn zk_open(words: *mut u64, hi: u64, lo: u64) -> u8;
+        pub fn zk_close(words: *mut u64, hi: u64, lo: u64) -> u8;
+        pub fn zk_assign(words: *mut u64, hi: u64, lo: u64, kind: u8, text: *const u8, length: usize) -> u8;
+        pub fn zk_unassign(words: *mut u64, hi: u64, lo: u64, kind: u8, text: *const u8, length: usize) -> u8;
+        pub fn zk_set_apmask(words: *mut u64, text: *const u8, length: usize) -> u8;
+        pub fn zk_set_aqmask(words: *mut u64, text: *const u8, length: usize) -> u8;
+        pub fn zk_configure(words: *mut u64, drivers: *mut u8, configuration: *const u8) -> u8;
+        pub fn zk_move(words: *const u64, drivers: *mut u8, apid: u8, apqi: u8) -> u8;
+        pub fn zk_remaining(words: *const u64, drivers: *const u8) -> u32;
+        pub fn zk_sweep(words: *const u64, drivers: *mut u8, budget: u32, more: *mut u8) -> u32;
+        pub fn zk_usable(words: *const u64, drivers: *const u8, hi: u64, lo: u64, apid: u8, apqi: u8) -> u8;
+        pub fn zk_masks(words: *const u64, drivers: *const u8, hi: u64, lo: u64, matrix: u8, masks: *mut u8) -> u8;
+        pub fn zk_list(
+            words: *const u64,
+            drivers: *const u8,
+            hi: u64,
+            lo: u64,
+            matrix: u8,
+            place: usize,
+            buffer: *mut u8,
+            length: usize,
+            written: *mut usize,
+            next: *mut usize,
+        ) -> u8;
+        pub fn zk_errno_name(value: u8, name: *mut u8) -> usize;
+    }
+}
+
+/// Lent memory with guard places on either side.
+struct Lent<T> {
+    all: Vec<T>,
+    edges: Vec<T>,
+}
+
+impl<T: Copy + PartialEq + fmt::Debug> Lent<T> {
+    fn new(inside: &[T], mut guard: impl FnMut() -> T) -> Lent<T> {
+        let edges: Vec<T> = (0..2 * EDGE).map(|_| guard()).collect();
+        let all = [&edges[..EDGE], inside, &edges[EDGE..]].concat();
+        Lent { all, edges }
+    }
+
+    fn len(&self) -> usize {
+        self.all.len() - 2 * EDGE
+    }
+
+    fn inside(&self) -> &[T] {
+        &self.all[EDGE..EDGE + self.len()]
+    }
+
+    fn inside_mut(&mut self) -> &mut [T] {
+        let end = EDGE + self.len();
+        &mut self.all[EDGE..end]
+    }
+
+    fn lend(&mut self) -> *mut T {
+        // from the whole, so that a write past the edge is still seen here
+        unsafe { self.all.as_mut_ptr().add(EDGE) }
+    }
+
+    /// Compares all that was lent, and the guard places.
+    fn compare(&self, name: &str, expected: &[T]) -> Result<(), String> {
+        let got = self.inside();
+        if got != expected {
+            let i = (0..got.len()).find(|&i| got[i] != expected[i]).unwrap();
+            return Err(format!("{name} {i}: {:?}, expected {:?}", got[i], expected[i]));
+        }
+        let end = EDGE + self.len();
+        if self.all[..EDGE] != self.edges[..EDGE] || self.all[end..] != self.edges[EDGE..] {
+            return Err(format!("{name}: written outside of what was lent"));
+        }
+        Ok(())
+    }
+}
+
+/// What changes a record.
+#[derive(Clone)]
+enum Call {
+    Fresh(u64, u64),
+    Create(Id),
+    Remove(Id),
+    Open(Id),
+    Close(Id),
+    Assign(Id, u8, Vec<u8>),
+    Unassign(Id, u8, Vec<u8>),
+    Apmask(Vec<u8>),
+    Aqmask(Vec<u8>),
+    Configure(Vec<u8>),
+    Move(u8, u8),
+    Sweep(u32),
+}
+
+impl fmt::Display for Call {
+    fn fmt(&self, f: &mut fmt::Formatter) -> fmt::Result {
+        let hex = |bytes: &[u8]| bytes.iter().map(|b| format!("{b:02x}")).collect::<String>();
+        match self {
+            Call::Fresh(a, d) => write!(f, "fresh {a} {d}"),
+            Call::Create(id) => write!(f, "create {}", hex(id)),
+            Call::Remove(id) => write!(f, "remove {}", hex(id)),
+            Call::Open(id) => write!(f, "open {}", hex(id)),
+            Call::Close(id) => write!(f, "close {}", hex(id)),
+            Call::Assign(id, kind, text) => write!(f, "assign {} kind {kind} \"{}\"", hex(id), text.escape_ascii()),
+            Call::Unassign(id, kind, text) => write!(f, "unassign {} kind {kind} \"{}\"", hex(id), text.escape_ascii()),
+            Call::Apmask(text) => write!(f, "apmask \"{}\"", text.escape_ascii()),
+            Call::Aqmask(text) => write!(f, "aqmask \"{}\"", text.escape_ascii()),
+            Call::Configure(bytes) => write!(f, "configure {}", hex(bytes)),
+            Call::Move(apid, apqi) => write!(f, "move {apid} {apqi}"),
+            Call::Sweep(budget) => write!(f, "sweep {budget}"),
+        }
+    }
+}
+
+fn kind_of(byte: u8) -> usize {
+    (byte as usize).min(CONTROL)
+}
+
+/// Both sides, and what has been counted.
+struct Run {
+    seed: u64,
+    random: Random,
+    record: Record,
+    words: Lent<u64>,
+    drivers: Lent<u8>,
+    phase: &'static str,
+    steps: u64,
+    accepted: u64,
+    refused: [u64; 256],
+    moves: [u64; 4],
+    sweeps: u64,
+    swept: u64,
+    views: u64,
+    usables: u64,
+    view_refused: [u64; 256],
+    fresh: u64,
+    handed_in: u64,
+    pokes: u64,
+}
+
+fn equal<T: PartialEq + fmt::Debug>(name: &str, got: T, expected: T) -> Result<(), String> {
+    if got == expected { Ok(()) } else { Err(format!("{name}: {got:?}, expected {expected:?}")) }
+}
+
+impl Run {
+    fn new(seed: u64) -> Run {
+        let mut random = Random::new(seed);
+        let words = Lent::new(&[0; WORDS], || random.next());
+        let drivers = Lent::new(&[0; QUEUES], || random.next() as u8);
+        Run {
+            seed,
+            record: Record::read(&[0; WORDS], &[0; QUEUES]),
+            random,
+            words,
+            drivers,
+            phase: "start",
+            steps: 0,
+            accepted: 0,
+            refused: [0; 256],
+            moves: [0; 4],
+            sweeps: 0,
+            swept: 0,
+            views: 0,
+            usables: 0,
+            view_refused: [0; 256],
+            fresh: 0,
+            handed_in: 0,
+            pokes: 0,
+        }
+    }
+
+    /// Hands in other contents, to both.
+    fn hand_in(&mut self, words: &[u64], drivers: &[u8]) {
+        self.words.inside_mut().copy_from_slice(words);
+        self.drivers.inside_mut().copy_from_slice(drivers);
+        self.record = Record::read(words, drivers);
+    }
+
+    fn compare_memory(&self) -> Result<(), String> {
+        self.words.compare("word", &self.record.words())?;
+        self.drivers.compare("driver", &self.record.drivers)
+    }
+
+    /// A text with text around it, so that a reader that goes too far reads something else.
+    fn lend_text(&mut self, text: &[u8]) -> Lent<u8> {
+        let random = &mut self.random;
+        Lent::new(text, || *random.pick(b"0123456789abcdefx,+-\n"))
+    }
+
+    fn lend_junk(&mut self, length: usize) -> Lent<u8> {
+        let random = &mut self.random;
+        let junk: Vec<u8> = (0..length).map(|_| random.next() as u8).collect();
+        Lent::new(&junk, || random.next() as u8)
+    }
+
+    /// Makes a call on both sides and compares. Answers what was answered.
+    fn call(&mut self, call: &Call) -> Result<u32, String> {
+        self.steps += 1;
+        let result = self.try_call(call);
+        result.map_err(|what| format!("{call}: {what}"))
+    }
+
+    fn try_call(&mut self, call: &Call) -> Result<u32, String> {
+        let (w, q) = (self.words.lend(), self.drivers.lend());
+        let (got, expected): (u32, u32) = match call {
+            Call::Fresh(a, d) => {
+                let got = unsafe { library::zk_fresh(w, q, *a, *d) };
+                (got.into(), self.record.fresh(*a, *d).into())
+            }
+            Call::Create(id) => {
+                let (hi, lo) = halves(id);
+                (unsafe { library::zk_create(w, hi, lo) }.into(), self.record.create(id).into())
+            }
+            Call::Remove(id) => {
+                let (hi, lo) = halves(id);
+                (unsafe { library::zk_remove(w, hi, lo) }.into(), self.record.remove(id).into())
+            }
+            Call::Open(id) => {
+                let (hi, lo) = halves(id);
+                (unsafe { library::zk_open(w, hi, lo) }.into(), self.record.open(id).into())
+            }
+            Call::Close(id) => {
+                let (hi, lo) = halves(id);
+                (unsafe { library::zk_close(w, hi, lo) }.into(), self.record.close(id).into())
+            }
+            Call::Assign(id, kind, text) => {
+                let (hi, lo) = halves(id);
+                let mut lent = self.lend_text(text);
+                let got = unsafe { library::zk_assign(w, hi, lo, *kind, lent.lend(), text.len()) };
+                lent.compare("text byte", text)?;
+                (got.into(), self.record.assign(id, kind_of(*kind), text).into())
+            }
+            Call::Unassign(id, kind, text) => {
+                let (hi, lo) = halves(id);
+                let mut lent = self.lend_text(text);
+                let got = unsafe { library::zk_unassign(w, hi, lo, *kind, lent.lend(), text.len()) };
+                lent.compare("text byte", text)?;
+                (got.into(), self.record.unassign(id, kind_of(*kind), text).into())
+            }
+            Call::Apmask(text) => {
+                let mut lent = self.lend_text(text);
+                let got = unsafe { library::zk_set_apmask(w, lent.lend(), text.len()) };
+                lent.compare("text byte", text)?;
+                (got.into(), self.record.set_apmask(text).into())
+            }
+            Call::Aqmask(text) => {
+                let mut lent = self.lend_text(text);
+                let got = unsafe { library::zk_set_aqmask(w, lent.lend(), text.len()) };
+                lent.compare("text byte", text)?;
+                (got.into(), self.record.set_aqmask(text).into())
+            }
+            Call::Configure(bytes) => {
+                let mut lent = self.lend_text(bytes);
+                let got = unsafe { library::zk_configure(w, q, lent.lend()) };
+                lent.compare("configuration byte", bytes)?;
+                (got.into(), self.record.configure(bytes).into())
+            }
+            Call::Move(apid, apqi) => {
+                let got = unsafe { library::zk_move(w, q, *apid, *apqi) };
+                (got.into(), self.record.move_queue(*apid as usize, *apqi as usize).into())
+            }
+            Call::Sweep(budget) => {
+                let mut more = self.lend_junk(1);
+                let got = unsafe { library::zk_sweep(w, q, *budget, more.lend()) };
+                let (used, any) = self.record.sweep(*budget);
+                more.compare("more", &[any as u8])?;
+                (got, used)
+            }
+        };
+        equal("answer", got, expected)?;
+        self.compare_memory()?;
+        match call {
+            Call::Move(..) => self.moves[got as usize] += 1,
+            Call::Sweep(_) => {
+                self.sweeps += 1;
+                self.swept += got as u64;
+            }
+            _ if got == 0 => self.accepted += 1,
+            _ => self.refused[got as usize] += 1,
+        }
+        Ok(got)
+    }
+
+    fn view_remaining(&mut self) -> Result<u32, String> {
+        self.views += 1;
+        let got = unsafe { library::zk_remaining(self.words.lend(), self.drivers.lend()) };
+        equal("remaining", got, self.record.remaining())?;
+        self.compare_memory()?;
+        Ok(got)
+    }
+
+    fn view_masks(&mut self, id: &Id, matrix: u8) -> Result<(), String> {
+        self.views += 1;
+        let (hi, lo) = halves(id);
+        let mut lent = self.lend_junk(96);
+        let before = lent.inside().to_vec();
+        let got = unsafe { library::zk_masks(self.words.lend(), self.drivers.lend(), hi, lo, matrix, lent.lend()) };
+        let (answer, bytes) = match self.record.find(id) {
+            None => (2, before),
+            Some(p) => (0, self.record.matrix(p, matrix).iter().flat_map(|set| set.bytes()).collect()),
+        };
+        equal("masks: answer", got, answer)?;
+        lent.compare("masks: byte", &bytes)?;
+        self.view_refused[got as usize] += 1;
+        self.compare_memory()
+    }
+
+    fn view_list(&mut self, id: &Id, matrix: u8, place: usize, length: usize) -> Result<(usize, usize), String> {
+        self.views += 1;
+        let (hi, lo) = halves(id);
+        let mut buffer = self.lend_junk(length);
+        let mut expected = buffer.inside().to_vec();
+        let random = &mut self.random;
+        let mut written = Lent::new(&[random.next() as usize], || random.next() as usize);
+        let mut next = Lent::new(&[random.next() as usize], || random.next() as usize);
+        let got = unsafe {
+            library::zk_list(
+                self.words.lend(),
+                self.drivers.lend(),
+                hi,
+                lo,
+                matrix,
+                place,
+                buffer.lend(),
+                length,
+                written.lend(),
+                next.lend(),
+            )
+        };
+        let what = |e| format!("list, matrix {matrix}, place {place}, buffer {length}: {e}");
+        let listing = self.record.list(id, matrix, place, length);
+        expected[..listing.bytes.len()].copy_from_slice(&listing.bytes);
+        equal("answer", got, listing.answer).map_err(what)?;
+        buffer.compare("byte", &expected).map_err(what)?;
+        written.compare("written", &[listing.bytes.len()]).map_err(what)?;
+        next.compare("next", &[listing.next]).map_err(what)?;
+        self.view_refused[got as usize] += 1;
+        self.compare_memory()?;
+        Ok((listing.bytes.len(), listing.next))
+    }
+
+    fn view_usable(&mut self, id: &Id, apid: u8, apqi: u8) -> Result<(), String> {
+        self.usables += 1;
+        let (hi, lo) = halves(id);
+        let got = unsafe { library::zk_usable(self.words.lend(), self.drivers.lend(), hi, lo, apid, apqi) };
+        let expected = self.record.usable(id, apid as usize, apqi as usize) as u8;
+        if got != expected {
+            return Err(format!("usable, device {id:02x?}, queue {apid}, {apqi}: {got}, expected {expected}"));
+        }
+        Ok(())
+    }
+
+    fn view_name(&mut self, value: u8) -> Result<(), String> {
+        self.views += 1;
+        let mut lent = self.lend_junk(14);
+        let got = unsafe { library::zk_errno_name(value, lent.lend()) };
+        let name = NAMES.iter().find(|(v, _)| *v == value).map_or("", |(_, name)| name);
+        let mut padded = name.as_bytes().to_vec();
+        padded.resize(14, 0);
+        equal("errno name: length", got, name.len())?;
+        lent.compare("errno name: byte", &padded)
+    }
+
+    fn list_randomly(&mut self, id: &Id, pool: &Pool, matrix: u8) -> Result<(), String> {
+        let place = match self.random.below(8) {
+            0..=2 => 0,
+            3 => self.random.below(65_536) as usize,
+            4 => pool.queue(&mut self.random),
+            5 => pool.queue(&mut self.random) + 1,
+            6 => *self.random.pick(&[65_534, 65_535, 65_536, 65_537, usize::MAX / 8, usize::MAX - 1, usize::MAX]),
+            _ => self.random.below(256) as usize * 256,
+        };
+        let length = match self.random.below(64) {
+            0..=4 => self.random.below(8) as usize,
+            5..=39 => 8 + self.random.below(60) as usize,
+            40..=62 => self.random.below(4_096) as usize,
+            // enough for 65,536 lines, or nearly
+            _ => 524_280 + self.random.below(20) as usize,
+        };
+        self.view_list(id, matrix, place, length)?;
+        Ok(())
+    }
+
+    /// Asks for everything of one device: masks, listings, and a number of queues.
+    fn view_device(&mut self, id: &Id, pool: &Pool, queues: usize) -> Result<(), String> {
+        for matrix in [0, 1 + self.random.below(255) as u8] {
+            self.view_masks(id, matrix)?;
+            self.list_randomly(id, pool, matrix)?;
+        }
+        for _ in 0..queues {
+            let queue = pool.queue(&mut self.random);
+            self.view_usable(id, (queue / 256) as u8, (queue % 256) as u8)?;
+        }
+        self.compare_memory()
+    }
+
+    /// A whole listing, from place to place with a small buffer.
+    fn walk_listing(&mut self, id: &Id, matrix: u8) -> Result<(), String> {
+        let mut place = 0;
+        let length = 8 + self.random.below(8_192) as usize;
+        while place < QUEUES {
+            let (_, next) = self.view_list(id, matrix, place, length)?;
+            if next <= place {
+                break;
+            }
+            place = next;
+        }
+        Ok(())
+    }
+}
+
+// ---------------------------------------------------------------------------------------------------------------------
+// Random commands.
+// ---------------------------------------------------------------------------------------------------------------------
+
+/// xorshift64*.
+struct Random(u64);
+
+impl Random {
+    fn new(seed: u64) -> Random {
+        // the state must not be 0
+        let mut random = Random((seed ^ 0x9e37_79b9_7f4a_7c15) | 1 << 63);
+        for _ in 0..16 {
+            random.next();
+        }
+        random
+    }
+
+    fn next(&mut self) -> u64 {
+        self.0 ^= self.0 >> 12;
+        self.0 ^= self.0 << 25;
+        self.0 ^= self.0 >> 27;
+        self.0.wrapping_mul(0x2545_f491_4f6c_dd1d)
+    }
+
+    fn below(&mut self, n: u64) -> u64 {
+        (self.next() >> 16) % n
+    }
+
+    fn one_in(&mut self, n: u64) -> bool {
+        self.below(n) == 0
+    }
+
+    fn pick<'a, T>(&mut self, of: &'a [T]) -> &'a T {
+        &of[self.below(of.len() as u64) as usize]
+    }
+}
+
+/// What the commands of one record are about, few enough that they meet.
+struct Pool {
+    ids: Vec<Id>,
+    numbers: [Vec<u8>; 2],
+    /// Of ten items of a mask text, those that set a bit.
+    plus: u64,
+}
+
+impl Pool {
+    fn new(random: &mut Random) -> Pool {
+        let mut ids: Vec<Id> = Vec::new();
+        for _ in 0..10 + random.below(3) {
+            let mut id = [0; 16];
+            // some differ in one byte only
+            if random.one_in(2) {
+                id[random.below(16) as usize] = random.next() as u8;
+            } else {
+                id.fill_with(|| random.next() as u8);
+            }
+            ids.push(id);
+        }
+        let mut some = || -> Vec<u8> {
+            let size = *random.pick(&[1, 2, 3, 6, 10, 16, 24, 40, 80, 256]);
+            if size == 256 {
+                return (0..=255).collect();
+            }
+            (0..size)
+                .map(|_| match random.below(3) {
+                    0 => *random.pick(&[0, 1, 63, 64, 127, 128, 191, 192, 254, 255]),
+                    _ => random.next() as u8,
+                })
+                .collect()
+        };
+        let numbers = [some(), some()];
+        let plus = *random.pick(&[1, 3, 5, 7]);
+        Pool { ids, numbers, plus }
+    }
+
+    /// An id, mostly one that a device has.
+    fn id(&self, random: &mut Random, record: &Record) -> Id {
+        let place = random.below(PLACES as u64) as usize;
+        if record.devices[place].present != 0 && !random.one_in(8) {
+            return record.devices[place].id;
+        }
+        *random.pick(&self.ids)
+    }
+
+    fn queue(&self, random: &mut Random) -> usize {
+        if random.one_in(6) {
+            return random.below(65_536) as usize;
+        }
+        *random.pick(&self.numbers[ADAPTER]) as usize * 256 + *random.pick(&self.numbers[DOMAIN]) as usize
+    }
+
+    /// A queue, often one that is due for a move.
+    fn due_queue(&self, random: &mut Random, record: &Record) -> usize {
+        for _ in 0..random.below(40) {
+            let queue = self.queue(random);
+            if record.driver(queue / 256, queue % 256) != record.target(queue / 256, queue % 256) {
+                return queue;
+            }
+        }
+        self.queue(random)
+    }
+}
+
+/// A number in one of the forms.
+fn spell(random: &mut Random, value: u64) -> String {
+    match random.below(8) {
+        0..=2 => format!("{value}"),
+        3 | 4 => format!("0x{value:x}"),
+        5 => {
+            let upper = format!("{value:X}");
+            let mixed: String =
+                upper.chars().map(|c| if random.one_in(2) { c.to_ascii_lowercase() } else { c }).collect();
+            format!("0x{mixed}")
+        }
+        6 => format!("0{value:o}"),
+        _ => {
+            // up to 16 bytes are good, and 17 are not
+            let width = 1 + random.below(17) as usize;
+            if random.one_in(2) {
+                format!("0x{value:0width$x}", width = width.saturating_sub(2))
+            } else {
+                format!("0{value:0width$o}", width = width.saturating_sub(1))
+            }
+        }
+    }
+}
+
+/// Damages a text; it may be good afterwards.
+fn damage(random: &mut Random, text: &mut Vec<u8>) {
+    let alphabet = b"0123456789abcdefABCDEFgGxX,+- \n\t\0\xff";
+    let at = random.below(text.len() as u64 + 1) as usize;
+    match random.below(12) {
+        0 => text.clear(),
+        1 => text.push(b'\n'),
+        2 => text.extend(b"\n\n"),
+        3 => text.insert(at, *random.pick(alphabet)),
+        4 => text.insert(at, random.next() as u8),
+        5 if at < text.len() => text[at] = *random.pick(alphabet),
+        6 if at < text.len() => text[at] = random.next() as u8,
+        7 if at < text.len() => {
+            text.remove(at);
+        }
+        8 => text.truncate(at),
+        9 => text.insert(0, *random.pick(b"+-0 \n")),
+        10 => text.extend(b"0000000000000000"),
+        _ => *text = random.pick(&[&b"0x"[..], b"08", b"0X5", b"-1", b"+", b",", b"0x\n", b"\n", b"+256", b"0xg", b"+5,", b",+5", b"+5,,+6"]).to_vec(),
+    }
+}
+
+fn number_text(random: &mut Random, numbers: &[u8], highest: u64) -> Vec<u8> {
+    let value = match random.below(24) {
+        0 => highest,
+        1 => highest + 1,
+        2 => random.below(256),
+        3 => 256 + random.below(65_280),
+        4 => *random.pick(&[255, 256, 257, 65_535, 65_536, 65_537, 131_072, 4_294_967_296, 4_294_967_301, 9_999_999_999_999_999]),
+        _ => *random.pick(numbers) as u64,
+    };
+    let mut text = spell(random, value).into_bytes();
+    if random.one_in(3) {
+        text.push(b'\n');
+    }
+    if random.one_in(14) {
+        damage(random, &mut text);
+    }
+    text
+}
+
+fn mask_text(random: &mut Random, numbers: &[u8], plus: u64) -> Vec<u8> {
+    let mut text = Vec::new();
+    if random.one_in(4) {
+        text.extend(b"0x");
+        let digits = match random.below(6) {
+            0 | 1 => 64,
+            2 => 1 + random.below(4),
+            3 => 62 + random.below(5),
+            _ => 1 + random.below(64),
+        };
+        let style = random.below(5);
+        for _ in 0..digits {
+            let sparse = if random.one_in(12) { 1 << random.below(4) } else { 0 };
+            let digit = match style {
+                0 => 15,
+                1 => 0,
+                2 => random.below(16),
+                3 => sparse,
+                _ => 15 - sparse,
+            };
+            let hex = b"0123456789abcdef"[digit as usize];
+            text.push(if random.one_in(4) { hex.to_ascii_uppercase() } else { hex });
+        }
+    } else {
+        let items = match random.below(40) {
+            0 => 100 + random.below(200),
+            1..=20 => 1,
+            _ => 1 + random.below(12),
+        };
+        for k in 0..items {
+            if k > 0 {
+                text.push(b',');
+            }
+            text.push(if random.below(10) < plus { b'+' } else { b'-' });
+            let value = match random.below(200) {
+                0 => 256,
+                1..=20 => random.below(256),
+                _ => *random.pick(numbers) as u64,
+            };
+            text.extend(spell_item(random, value));
+        }
+    }
+    if random.one_in(3) {
+        text.push(b'\n');
+    }
+    if random.one_in(14) {
+        damage(random, &mut text);
+    }
+    text
+}
+
+/// A number that is no longer than 16 bytes, so that long lists are good now and then.
+fn spell_item(random: &mut Random, value: u64) -> Vec<u8> {
+    loop {
+        let text = spell(random, value);
+        if text.len() <= 16 {
+            return text.into_bytes();
+        }
+    }
+}
+
+/// A mask for a record or a configuration.
+fn some_set(random: &mut Random, numbers: &[u8]) -> Set {
+    match random.below(8) {
+        0 => Set::NONE,
+        1 => Set::ALL,
+        2 => Set::of_words(&[random.next(), random.next(), random.next(), random.next()]),
+        3 => Set::of_words(&[random.next() & random.next() & random.next(), 0, random.next() & random.next(), 0]),
+        4 => {
+            let top = random.below(256) as usize;
+            let mut set = Set::NONE;
+            set.0[..=top].fill(true);
+            set
+        }
+        _ => {
+            let mut set = Set::NONE;
+            for &n in numbers {
+                set.0[n as usize] = !random.one_in(3);
+            }
+            set
+        }
+    }
+}
+
+fn configuration(random: &mut Random, pool: &Pool, record: &Record) -> Vec<u8> {
+    let mut bytes = Vec::with_capacity(CONFIG_BYTES);
+    let mut sets = [ADAPTER, DOMAIN, DOMAIN].map(|kind| some_set(random, &pool.numbers[kind]));
+    // most are within the limits
+    if !random.one_in(4) {
+        for kind in 0..3 {
+            let limit = record.highest(kind) as usize;
+            sets[kind].0[limit + 1..].fill(false);
+            if random.one_in(4) {
+                sets[kind].0[limit] = true;
+            }
+        }
+    } else if random.one_in(2) {
+        // one bit above, in one mask
+        let kind = random.below(3) as usize;
+        for k in 0..3 {
+            let limit = record.highest(k) as usize;
+            sets[k].0[limit + 1..].fill(false);
+        }
+        let limit = record.highest(kind) as usize;
+        if limit < 255 {
+            sets[kind].0[limit + 1 + random.below(255 - limit as u64) as usize] = true;
+        }
+    }
+    for set in &sets {
+        bytes.extend(set.bytes());
+    }
+    let style = random.below(6);
+    for _ in 0..256 {
+        bytes.push(match style {
+            0 => 10,
+            1 => *random.pick(&[9, 10]),
+            2 => random.next() as u8,
+            3 => 255,
+            _ => *random.pick(&[10, 11, 12, 13, 10, 11, 12, 9]),
+        });
+    }
+    bytes
+}
+
+fn budget(random: &mut Random) -> u32 {
+    match random.below(6) {
+        0 => *random.pick(&[0, 1, 2, 65_535, 65_536, 131_071, 131_072, 131_073, 1 << 31, u32::MAX]),
+        1 => random.below(10) as u32,
+        2 | 3 => random.below(1_000) as u32,
+        4 => random.below(131_072) as u32,
+        _ => 131_072,
+    }
+}
+
+fn limit(random: &mut Random) -> u64 {
+    match random.below(4) {
+        0 => random.below(256),
+        1 => *random.pick(&[0, 1, 62, 63, 64, 65, 127, 128, 191, 192, 254]),
+        _ => 255,
+    }
+}
+
+fn odd_value(random: &mut Random) -> u64 {
+    match random.below(3) {
+        0 => random.next(),
+        1 => 1 << random.below(64),
+        _ => *random.pick(&[0, 1, 2, 255, 256, 257, 65_535, 65_536, 1 << 32, (1 << 32) + 5, 1 << 63, u64::MAX]),
+    }
+}
+
+fn flag(random: &mut Random) -> u64 {
+    match random.below(4) {
+        0 => 0,
+        1 => odd_value(random),
+        _ => 1,
+    }
+}
+
+/// A record with any contents, such as no command leaves.
+fn any_record(random: &mut Random, pool: &Pool) -> (Vec<u64>, Vec<u8>) {
+    let mut words = Vec::with_capacity(WORDS);
+    for _ in 0..2 {
+        words.push(if random.one_in(2) { odd_value(random) } else { limit(random) });
+    }
+    for kind in [ADAPTER, DOMAIN, ADAPTER, DOMAIN, DOMAIN] {
+        words.extend(some_set(random, &pool.numbers[kind]).words());
+    }
+    let style = random.below(5);
+    for _ in 0..256 {
+        words.push(match style {
+            0 => 10,
+            1 => *random.pick(&[9, 10, 0]),
+            2 => odd_value(random),
+            3 => random.below(256),
+            _ => 256 * random.below(3),
+        });
+    }
+    let crowd = *random.pick(&[3, 6, 12]);
+    for _ in 0..PLACES {
+        // of few ids some are equal
+        let (hi, lo) = halves(&pool.ids[random.below(crowd.min(pool.ids.len() as u64)) as usize]);
+        words.extend([flag(random), flag(random), hi, lo]);
+        for kind in [ADAPTER, DOMAIN, DOMAIN] {
+            words.extend(some_set(random, &pool.numbers[kind]).words());
+        }
+    }
+    let style = random.below(6);
+    let drivers = (0..QUEUES)
+        .map(|_| match style {
+            0 => 2,
+            1 => random.below(3) as u8,
+            2 => random.next() as u8,
+            3 => *random.pick(&[0, 1, 2, 2, 2, 2, 3, 4, 128, 130, 255]),
+            4 => 3 + random.below(253) as u8,
+            _ => 2 * (!random.one_in(1_000)) as u8,
+        })
+        .collect();
+    (words, drivers)
+}
+
+impl Run {
+    fn random_call(&mut self, pool: &Pool) -> Call {
+        let random = &mut self.random;
+        let id = pool.id(random, &self.record);
+        // with few devices there is little to meet
+        if self.record.devices.iter().filter(|v| v.present != 0).count() < 3 && random.one_in(3) {
+            return Call::Create(*random.pick(&pool.ids));
+        }
+        match random.below(1_000) {
+            0..=59 => Call::Create(*random.pick(&pool.ids)),
+            60..=84 => Call::Remove(id),
+            85..=139 => Call::Open(id),
+            140..=184 => Call::Close(id),
+            185..=724 => {
+                let kind = match random.below(5) {
+                    0 | 1 => ADAPTER as u8,
+                    2 | 3 => DOMAIN as u8,
+                    _ => 2 + random.below(254) as u8,
+                };
+                let highest = self.record.highest(kind_of(kind));
+                let host = if kind_of(kind) == ADAPTER { &self.record.apmask } else { &self.record.aqmask };
+                let n = random.below(256) as u8;
+                let text = match random.below(5) {
+                    // of the host's numbers, so that reserved queues are asked for
+                    0 if host.has(n as usize) => number_text(random, &[n], highest),
+                    _ => number_text(random, &pool.numbers[kind_of(kind).min(DOMAIN)], highest),
+                };
+                // taken away less often than given, so that products grow
+                if random.one_in(4) { Call::Unassign(id, kind, text) } else { Call::Assign(id, kind, text) }
+            }
+            725..=764 => Call::Apmask(mask_text(random, &pool.numbers[ADAPTER], pool.plus)),
+            765..=804 => Call::Aqmask(mask_text(random, &pool.numbers[DOMAIN], pool.plus)),
+            805..=824 => Call::Configure(configuration(random, pool, &self.record)),
+            825..=834 => Call::Sweep(budget(random)),
+            835 => {
+                let mut limits = [limit(random), limit(random)];
+                if random.one_in(2) {
+                    limits[random.below(2) as usize] = odd_value(random);
+                }
+                Call::Fresh(limits[0], limits[1])
+            }
+            _ => {
+                let queue = pool.due_queue(random, &self.record);
+                Call::Move((queue / 256) as u8, (queue % 256) as u8)
+            }
+        }
+    }
+
+    /// Starts another record: a fresh one, or one with any contents.
+    fn start(&mut self) -> Result<Pool, String> {
+        let mut pool = Pool::new(&mut self.random);
+        if self.random.one_in(2) {
+            let (words, drivers) = any_record(&mut self.random, &pool);
+            self.hand_in(&words, &drivers);
+            self.handed_in += 1;
+        } else {
+            let (adapter, domain) = (limit(&mut self.random), limit(&mut self.random));
+            self.call(&Call::Fresh(adapter, domain))?;
+            self.fresh += 1;
+        }
+        // mostly within the limits, as else nothing but ENODEV is met
+        if !self.random.one_in(4) {
+            for kind in [ADAPTER, DOMAIN] {
+                let limit = self.record.highest(kind);
+                pool.numbers[kind].iter_mut().for_each(|n| *n = (*n as u64 % (limit + 1)) as u8);
+            }
+        }
+        Ok(pool)
+    }
+
+    /// Changes one word or one driver behind the back of both.
+    fn poke(&mut self) {
+        self.pokes += 1;
+        let (mut words, mut drivers) = (self.words.inside().to_vec(), self.drivers.inside().to_vec());
+        if self.random.one_in(2) {
+            let at = self.random.below(WORDS as u64) as usize;
+            words[at] = if self.random.one_in(2) { odd_value(&mut self.random) } else { words[at] ^ 1 << self.random.below(64) };
+        } else {
+            drivers[self.random.below(65_536) as usize] = self.random.next() as u8;
+        }
+        self.hand_in(&words, &drivers);
+    }
+
+    fn random_step(&mut self, pool: &Pool) -> Result<(), String> {
+        if self.random.one_in(400) {
+            self.poke();
+        }
+        let call = self.random_call(pool);
+        self.call(&call)?;
+        Ok(())
+    }
+
+    /// Everything that can be asked, of every device, and of an id that may be none.
+    fn view_all(&mut self, pool: &Pool) -> Result<(), String> {
+        self.view_remaining()?;
+        let mut ids: Vec<Id> = self.record.devices.iter().filter(|v| v.present != 0).map(|v| v.id).collect();
+        ids.push(*self.random.pick(&pool.ids));
+        for id in ids {
+            self.view_device(&id, pool, 24)?;
+        }
+        let value = self.random.next() as u8;
+        self.view_name(value)
+    }
+
+    fn full_phase(&mut self, clock: &mut Clock) -> Result<u64, String> {
+        self.phase = "full";
+        let begin = self.steps;
+        while self.steps - begin < FULL_STEPS && !clock.over(self) {
+            let pool = self.start()?;
+            for _ in 0..60 + self.random.below(80) {
+                if self.steps - begin >= FULL_STEPS || clock.over(self) {
+                    break;
+                }
+                self.random_step(&pool)?;
+                self.view_all(&pool)?;
+            }
+            // listings of one device from end to end, and in a few records all its queues, as each can cost 65,536 turns
+            let id = pool.id(&mut self.random, &self.record);
+            for matrix in [0, 1] {
+                self.walk_listing(&id, matrix)?;
+            }
+            if self.fresh + self.handed_in <= 4 {
+                for queue in 0..QUEUES {
+                    self.view_usable(&id, (queue / 256) as u8, (queue % 256) as u8)?;
+                }
+            }
+        }
+        Ok(self.steps - begin)
+    }
+
+    fn long_phase(&mut self, clock: &mut Clock) -> Result<u64, String> {
+        self.phase = "long";
+        let begin = self.steps;
+        while !clock.over(self) {
+            let pool = self.start()?;
+            for _ in 0..200 + self.random.below(3_000) {
+                if clock.over(self) {
+                    break;
+                }
+                self.random_step(&pool)?;
+                let (id, queue) = (pool.id(&mut self.random, &self.record), pool.queue(&mut self.random));
+                self.view_usable(&id, (queue / 256) as u8, (queue % 256) as u8)?;
+                if self.steps % SAMPLE == 0 {
+                    self.view_remaining()?;
+                    self.view_device(&id, &pool, 8)?;
+                }
+            }
+        }
+        Ok(self.steps - begin)
+    }
+
+    /// Each limit of either kind, what is at it, below it and above it; and the largest budget of a sweep.
+    fn limits_phase(&mut self) -> Result<u64, String> {
+        self.phase = "limits";
+        let begin = self.steps;
+        let id = [7; 16];
+        for above in [256, 257, 511, 65_536, 1 << 32, 1 << 63, u64::MAX] {
+            self.call(&Call::Fresh(255, 255))?;
+            self.call(&Call::Create(id))?;
+            for (adapter, domain) in [(above, 255), (255, above), (above, above), (0, above)] {
+                let answer = self.call(&Call::Fresh(adapter, domain))?;
+                equal("a limit above 255", answer, 22)?;
+            }
+        }
+        for adapter in 0..256 {
+            for domain in [adapter, 255 - adapter, self.random.below(256), self.random.below(256)] {
+                let highest = [adapter, domain, domain];
+                self.call(&Call::Fresh(adapter, domain))?;
+                self.call(&Call::Create(id))?;
+                for (kind, &limit) in highest.iter().enumerate() {
+                    for n in [limit, limit + 1, limit.saturating_sub(1), 255, 256] {
+                        let text = spell(&mut self.random, n).into_bytes();
+                        let long = text.len() > 16;
+                        for call in [Call::Assign(id, kind as u8, text.clone()), Call::Unassign(id, kind as u8, text)] {
+                            let answer = self.call(&call)?;
+                            equal("a number at a limit", answer, if long { 22 } else if n > limit { 19 } else { 0 })?;
+                        }
+                    }
+                    for n in [limit, limit + 1] {
+                        let mut bytes = vec![0; CONFIG_BYTES];
+                        if n <= 255 {
+                            bytes[kind * 32 + n as usize / 8] = 128 >> (n % 8);
+                            let answer = self.call(&Call::Configure(bytes))?;
+                            equal("a bit at a limit", answer, if n > limit { 19 } else { 0 })?;
+                        }
+                    }
+                }
+            }
+        }
+        for budget in [0, 1, 131_070, 131_071, 131_072, 131_073, 1 << 31, u32::MAX] {
+            // every queue goes from host to passthrough
+            let all = [[255; 96].as_slice(), &[10; 256]].concat();
+            for call in [Call::Fresh(255, 255), Call::Configure(all), Call::Sweep(u32::MAX), Call::Apmask(b"0x0".to_vec())] {
+                self.call(&call)?;
+            }
+            equal("remaining", self.view_remaining()?, 131_072)?;
+            let used = self.call(&Call::Sweep(budget))?;
+            equal("moves used", used, budget.min(131_072))?;
+        }
+        Ok(self.steps - begin)
+    }
+
+    /// The settings that the requirements work out, with the outcomes that they give. They hold the second implementation
+    /// to the paper too.
+    fn settings_phase(&mut self) -> Result<u64, String> {
+        self.phase = "settings";
+        let begin = self.steps;
+        let one = [1; 16];
+        let two = [2; 16];
+        let text = |t: &str| t.as_bytes().to_vec();
+        let set = |numbers: &[usize]| {
+            let mut set = Set::NONE;
+            numbers.iter().for_each(|&n| set.0[n] = true);
+            set.words()
+        };
+        macro_rules! gives {
+            ($answer:expr, $call:expr) => {{
+                let call = $call;
+                let got = self.call(&call)?;
+                equal(&format!("setting: {call}"), got, $answer)?;
+            }};
+        }
+        macro_rules! mask_is {
+            ($mask:expr, $numbers:expr) => {
+                equal("setting: mask", $mask.words(), set(&$numbers))?
+            };
+        }
+
+        // 1 to 3, 15
+        gives!(0, Call::Fresh(255, 255));
+        gives!(0, Call::Apmask(text("0x41")));
+        mask_is!(self.record.apmask, [1, 7]);
+        gives!(0, Call::Apmask(text("0x7d")));
+        mask_is!(self.record.apmask, [1, 2, 3, 4, 5, 7]);
+        gives!(0, Call::Apmask(text(&format!("0x{}", "a".repeat(64)))));
+        gives!(22, Call::Apmask(text(&format!("0x{}", "a".repeat(65)))));
+        gives!(0, Call::Apmask(text("0x0\n")));
+        gives!(0, Call::Apmask(text("+0,-6,+0x47,-0xf0")));
+        mask_is!(self.record.apmask, [0, 71]);
+        gives!(0, Call::Apmask(text("+255")));
+        gives!(22, Call::Apmask(text("+256")));
+        gives!(22, Call::Apmask(text("")));
+        gives!(0, Call::Apmask(text("0x0")));
+        gives!(0, Call::Apmask(text("+0107")));
+        mask_is!(self.record.apmask, [71]);
+
+        // 4
+        gives!(0, Call::Apmask(text("0xffff")));
+        gives!(0, Call::Aqmask(text("0x40")));
+        for (apid, apqi, reserved) in [(15, 1, true), (16, 1, false), (15, 0, false)] {
+            equal("setting: reserved", self.record.reserved(apid, apqi), reserved)?;
+        }
+
+        // 5 and 6
+        gives!(0, Call::Apmask(text("0x0")));
+        gives!(0, Call::Aqmask(text("0x0")));
+        gives!(0, Call::Create(one));
+        gives!(0, Call::Create(two));
+        for (id, kind, n) in [(one, 0, "1"), (one, 0, "2"), (one, 1, "5"), (one, 1, "6"), (two, 0, "1"), (two, 0, "2"), (two, 1, "7")] {
+            gives!(0, Call::Assign(id, kind, text(n)));
+        }
+        gives!(98, Call::Assign(two, 1, text("6")));
+
+        // 7 and 8
+        gives!(0, Call::Fresh(255, 255));
+        gives!(0, Call::Create(one));
+        gives!(0, Call::Assign(one, 0, text("5")));
+        gives!(99, Call::Assign(one, 1, text("4")));
+        gives!(0, Call::Fresh(63, 255));
+        gives!(0, Call::Create(one));
+        gives!(0, Call::Assign(one, 0, text("63")));
+        gives!(19, Call::Assign(one, 0, text("64")));
+
+        // 9, 10 and the listing
+        let with_domains = |domains: &[usize]| {
+            let mut bytes = vec![0; CONFIG_BYTES];
+            bytes[0] = 0x06;
+            for &d in domains {
+                bytes[32 + d / 8] |= 128 >> (d % 8);
+            }
+            bytes[96..].fill(10);
+            bytes
+        };
+        gives!(0, Call::Fresh(255, 255));
+        gives!(0, Call::Apmask(text("-5,-6")));
+        gives!(0, Call::Configure(with_domains(&[4, 171])));
+        gives!(0, Call::Create(one));
+        for (kind, n) in [(0, "5"), (0, "6"), (1, "4"), (1, "0xab")] {
+            gives!(0, Call::Assign(one, kind, text(n)));
+        }
+        gives!(3, Call::Sweep(3));
+        let guest = self.record.guest(0);
+        mask_is!(guest[ADAPTER], [5]);
+        mask_is!(guest[DOMAIN], [4, 171]);
+        self.view_masks(&one, 1)?;
+        gives!(0, Call::Configure(with_domains(&[4])));
+        let guest = self.record.guest(0);
+        mask_is!(guest[ADAPTER], [5, 6]);
+        mask_is!(guest[DOMAIN], [4]);
+        self.view_masks(&one, 1)?;
+        let all = b"05.0004\n05.00ab\n06.0004\n06.00ab\n";
+        for (length, bytes, next, answer) in [(20, 16, 1_452, 0), (32, 32, 65_536, 0), (7, 0, 0, 28)] {
+            let listing = self.record.list(&one, 0, 0, length);
+            equal("setting: listing", listing.answer, answer)?;
+            equal("setting: listing", &listing.bytes[..], &all[..bytes])?;
+            equal("setting: next place", listing.next, next)?;
+            self.view_list(&one, 0, 0, length)?;
+        }
+
+        // 11
+        gives!(0, Call::Fresh(255, 255));
+        gives!(0, Call::Apmask(text("-5")));
+        gives!(0, Call::Aqmask(text("-4")));
+        gives!(0, Call::Create(one));
+        gives!(0, Call::Assign(one, 0, text("5")));
+        gives!(0, Call::Assign(one, 1, text("4")));
+        gives!(0, Call::Apmask(text("+5")));
+        gives!(0, Call::Apmask(text("-5")));
+        gives!(0, Call::Aqmask(text("+4")));
+        gives!(98, Call::Apmask(text("+5")));
+
+        // 12: with adapter 5, domain 4 is assigned elsewhere and domain 6 is reserved
+        gives!(0, Call::Fresh(255, 255));
+        gives!(0, Call::Apmask(text("0x04")));
+        gives!(0, Call::Aqmask(text("0x02")));
+        gives!(0, Call::Create(one));
+        gives!(0, Call::Create(two));
+        for (id, kind, n) in [(one, 0, "5"), (one, 1, "4"), (two, 1, "4"), (two, 1, "6")] {
+            gives!(0, Call::Assign(id, kind, text(n)));
+        }
+        gives!(99, Call::Assign(two, 0, text("5")));
+        gives!(0, Call::Unassign(two, 1, text("6")));
+        gives!(98, Call::Assign(two, 0, text("5")));
+
+        // 13
+        gives!(0, Call::Fresh(255, 255));
+        let mut bytes = vec![0; CONFIG_BYTES];
+        bytes[0] = 0x04;
+        bytes[32] = 0x08;
+        bytes[96 + 5] = 10;
+        gives!(0, Call::Configure(bytes));
+        gives!(2, Call::Move(5, 4));
+        gives!(0, Call::Apmask(text("-5")));
+        gives!(0, Call::Sweep(0));
+        equal("setting: remaining", self.view_remaining()?, 2)?;
+        gives!(1, Call::Move(5, 4));
+        equal("setting: remaining", self.view_remaining()?, 1)?;
+        gives!(3, Call::Move(5, 4));
+        equal("setting: remaining", self.view_remaining()?, 0)?;
+        gives!(0, Call::Move(5, 4));
+
+        // 14
+        gives!(0, Call::Fresh(255, 255));
+        for n in 0..8 {
+            gives!(0, Call::Create([n; 16]));
+        }
+        gives!(28, Call::Create([8; 16]));
+        gives!(0, Call::Remove([3; 16]));
+        gives!(0, Call::Create([8; 16]));
+
+        for value in 0..=255 {
+            self.view_name(value)?;
+        }
+        Ok(self.steps - begin)
+    }
+}
+
+// ---------------------------------------------------------------------------------------------------------------------
+// The run and its report.
+// ---------------------------------------------------------------------------------------------------------------------
+
+struct Clock {
+    begin: Instant,
+    limit: Duration,
+    most: u64,
+    looked: u64,
+    shown: u64,
+    ended: bool,
+}
+
+impl Clock {
+    /// Whether the run ends here; shows the progress now and then.
+    fn over(&mut self, run: &Run) -> bool {
+        if run.steps >= self.most {
+            self.ended = true;
+        }
+        // looking at the time costs more than a step of some kinds
+        if !self.ended && (run.phase == "full" || run.steps >= self.looked + 64) {
+            self.looked = run.steps;
+            let passed = self.begin.elapsed();
+            self.ended = passed >= self.limit;
+            if passed.as_secs() >= self.shown + 10 {
+                self.shown = passed.as_secs();
+                println!("{:4} s, {} phase, {} steps", self.shown, run.phase, run.steps);
+            }
+        }
+        self.ended
+    }
+}
+
+fn argument(n: usize, default: u64) -> u64 {
+    match std::env::args().nth(n) {
+        None => default,
+        Some(word) => word.parse().unwrap_or_else(|_| {
+            eprintln!("usage: outside [SEED [SECONDS [STEPS]]]");
+            std::process::exit(2)
+        }),
+    }
+}
+
+fn phases(run: &mut Run, clock: &mut Clock) -> Result<[u64; 4], String> {
+    Ok([run.settings_phase()?, run.limits_phase()?, run.full_phase(clock)?, run.long_phase(clock)?])
+}
+
+fn main() {
+    let seed = argument(1, 1);
+    let limit = Duration::from_secs(argument(2, 120));
+    let most = argument(3, u64::MAX);
+    let mut run = Run::new(seed);
+    let mut clock = Clock { begin: Instant::now(), limit, most, looked: 0, shown: 0, ended: false };
+    let [settings, limits, full, long] = match phases(&mut run, &mut clock) {
+        Ok(counts) => counts,
+        Err(what) => {
+            println!("DIFFERS at step {} of the {} phase, seed {}: {what}", run.steps, run.phase, run.seed);
+            std::process::exit(1);
+        }
+    };
+    let seconds = clock.begin.elapsed().as_secs_f64();
+    println!("seed {seed}: {} steps in {seconds:.1} s, on {} fresh records and {} handed in ({} words or drivers changed between steps)", run.steps, run.fresh, run.handed_in, run.pokes);
+    println!("  phases: settings {settings}, limits {limits}, full {full}, long {long}");
+    println!("  commands: {} accepted; refused:", run.accepted);
+    for (value, name) in NAMES {
+        println!("    {value:2} {name:13} {:9}   (by listings and masks {})", run.refused[value as usize], run.view_refused[value as usize]);
+    }
+    let [idle, released, host, passthrough] = run.moves;
+    println!("  moves: {idle} idle, {released} released, {host} bound to host, {passthrough} bound to passthrough");
+    println!("  sweeps: {}, of {} moves", run.sweeps, run.swept);
+    println!("  after every step: the answer, {WORDS} words, {QUEUES} drivers, each buffer lent, {EDGE} guard places on either side");
+    println!("  full phase, after every step: the remainder, and of every device (and one id more) both matrices' masks, two listings and 24 queues");
+    println!("  long phase, after every step: one queue; after every {SAMPLE}th: the remainder, and of one device the same with 8 queues");
+    println!("  so asked: {} masks, listings, names and remainders, and {} queues", run.views, run.usables);
+    let missing: Vec<&str> = NAMES.iter().filter(|(v, _)| run.refused[*v as usize] == 0).map(|(_, name)| *name).collect();
+    if !missing.is_empty() {
+        println!("NOT MET: {}", missing.join(", "));
+        std::process::exit(1);
+    }
+    println!("nothing differs");
+}
