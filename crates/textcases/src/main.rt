@@ -9,6 +9,7 @@ const OUT: i32 = 1;
 fn main() {
     hand_numbers();
     hand_masks();
+    bad_masks();
     number_lengths(b'0');
     number_lengths(b'1');
     hex_lengths();
@@ -86,6 +87,10 @@ fn hand_masks() {
     mask(b"+256", Mask::empty());
     mask(b"+0377", Mask::empty());
     mask(b"+0400", Mask::empty());
+}
+
+// Texts that are no mask.
+fn bad_masks() {
     mask(b"", Mask::full());
     mask(b"\n", Mask::full());
     mask(b"0x", Mask::full());
