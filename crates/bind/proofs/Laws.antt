@@ -4,11 +4,11 @@ use Prim.Native.Nat.{ℕ, zero, suc, _+_, _-_, _*_, _/_, _%_, _≤_, _<_, min}
 use native.Mathlib.Nat.{le-refl}
 use native.Mathlib.Numerals.{add-one}
 use native.Mathlib.Omega.{arith}
-use mathlib.Core.Path.{_≡_, refl, sym, ap, _∙_, fun-ext}
+use mathlib.Core.Path.{_≡_, refl, sym, ap, ap₂, _∙_, fun-ext}
 use mathlib.Core.Bool.{Bool, true, false, cond, not, _&&_}
 use mathlib.Core.List.{List}
-use lib.ListN.{length, getD, length-set}
-use lib.Seq.{getD-set-other}
+use lib.ListN.{length, getD, set, length-set}
+use lib.Seq.{getD-set-same, getD-set-other, set-set}
 use lib.Dec.{eqb, ltb, leb}
 use borrow.Author.Tests.{eqb-true, eq-eqb, ne-eqb, ltb-true, ltb-false}
 use Rattle.rules.specs.declared.Driver.{Driver}
@@ -21,7 +21,7 @@ use Rattle.rules.proofs.Products.{in-product, queue-apid}
 use Rattle.rules.proofs.Sums.{sum-more}
 use Rattle.rules.proofs.Moves.{due-le, sumFrom, sum-split, all-due, remaining-sweep}
 use Rattle.record.specs.Layout.{stateIn, hostIn, configIn, driverOf, byteOf}
-use Rattle.record.proofs.Laws.{read-rebound}
+use Rattle.record.proofs.Laws.{driver-of-byte, read-rebound}
 use Rattle.bind.specs.Moves.{bytesAfter, moveBytes, movesBytes, sweepBytes}
 
 -- a test that is turned round
@@ -156,6 +156,40 @@ pub due-two : (s : State) (j : ℕ) → dueAt s j ≤ 2
 unfolding dueAt
 due-two s j = due-le (s .driver j) (targetOf (s .host) (s .config) j)
 
+-- the bytes after a move, by the driver that the queue has and its target
+step : (ws qs : List ℕ) (k : ℕ) (v t : Driver) → driverOf (getD qs k 0) ≡ v → targetOf (hostIn ws) (configIn ws) k ≡ t
+    → bytesAfter (moved v t) k qs ≡ moveBytes ws k qs
+step ws qs k v t e f = bytes-by ws qs k (moved v t) (sym (ap₂ moved e f) ∙ answer-read ws qs k)
+
+-- an exchange: the queue is released, and then bound
+exchange : (ws qs : List ℕ) (k : ℕ) (t : Driver) → k < length qs → targetOf (hostIn ws) (configIn ws) k ≡ t
+    → set qs k (byteOf Unbound) ≡ moveBytes ws k qs → bytesAfter (moved Unbound t) k (set qs k (byteOf Unbound)) ≡ movesBytes ws 2 k qs
+exchange ws qs k t h f g =
+    step ws (set qs k (byteOf Unbound)) k Unbound t (ap driverOf (getD-set-same qs k (byteOf Unbound) 0 h) ∙ driver-of-byte Unbound) f
+    ∙ ap (moveBytes ws k) g ∙ sym (two-moves ws k qs)
+
+-- the bytes after all moves that are due, by the driver that the queue has and its target
+finished-by : (ws qs : List ℕ) (k : ℕ) (v t : Driver) → k < length qs → driverOf (getD qs k 0) ≡ v → targetOf (hostIn ws) (configIn ws) k ≡ t
+    → cond (eqb (due v t) 0) qs (set qs k (byteOf t)) ≡ movesBytes ws (due v t) k qs
+unfolding due moved bytesAfter
+finished-by ws qs k Unbound Unbound h e f = sym (no-moves ws k qs)
+finished-by ws qs k Unbound Host h e f = step ws qs k Unbound Host e f ∙ sym (one-move ws k qs)
+finished-by ws qs k Unbound Passthrough h e f = step ws qs k Unbound Passthrough e f ∙ sym (one-move ws k qs)
+finished-by ws qs k Host Unbound h e f = step ws qs k Host Unbound e f ∙ sym (one-move ws k qs)
+finished-by ws qs k Host Host h e f = sym (no-moves ws k qs)
+finished-by ws qs k Host Passthrough h e f =
+    sym (set-set qs k (byteOf Unbound) (byteOf Passthrough)) ∙ exchange ws qs k Passthrough h f (step ws qs k Host Passthrough e f)
+finished-by ws qs k Passthrough Unbound h e f = step ws qs k Passthrough Unbound e f ∙ sym (one-move ws k qs)
+finished-by ws qs k Passthrough Host h e f =
+    sym (set-set qs k (byteOf Unbound) (byteOf Host)) ∙ exchange ws qs k Host h f (step ws qs k Passthrough Host e f)
+finished-by ws qs k Passthrough Passthrough h e f = sym (no-moves ws k qs)
+
+-- a queue whose due moves are all made has its target's byte, or the one it had where none was due
+pub finished : (ws qs : List ℕ) (k n : ℕ) (t : Driver) → k < length qs → n ≡ dueAt (stateIn ws qs) k → t ≡ targetOf (hostIn ws) (configIn ws) k
+    → cond (eqb n 0) qs (set qs k (byteOf t)) ≡ movesBytes ws n k qs
+finished ws qs k n t h e f =
+    rw (e ∙ due-read ws qs k, f) (finished-by ws qs k (driverOf (getD qs k 0)) (targetOf (hostIn ws) (configIn ws) k) h refl refl)
+
 -- queues with the same byte
 pub due-byte : (ws qs rs : List ℕ) (j : ℕ) → getD qs j 0 ≡ getD rs j 0 → dueAt (stateIn ws qs) j ≡ dueAt (stateIn ws rs) j
 unfolding dueAt stateIn
@@ -230,6 +264,10 @@ module _ (ws rs : List ℕ) (n b k left : ℕ) (qs : List ℕ) (w : Sweeping ws 
   -- what is due of the queue that the sweep has come to
   pub due-now : dueAt (stateIn ws qs) k ≡ dueAt (stateIn ws rs) k
   due-now = due-byte ws qs rs k (w .ahead k (le-refl k))
+
+  -- a sweep has as many queues as it began with
+  pub as-long : length qs ≡ length rs
+  as-long = sym (sweep-length ws (n - k) k left qs) ∙ sym (ap length (w .bytes)) ∙ sweep-length ws n 0 b rs
 
   -- a turn that has moves enough
   pub sweep-goes-on : (m : ℕ) → m ≡ dueAt (stateIn ws qs) k → m ≤ left → Sweeping ws rs n b (k + 1) (left - m) (movesBytes ws m k qs)

@@ -8,17 +8,24 @@ use rules::Driver;
 use rules::Moved;
 ghost use mathlib.Core.Path.{_≡_};
 ghost use Prim.Native.Nat.{_+_, _*_, _<_, _≤_, min};
-ghost use mathlib.Core.Bool.{not, _&&_};
+ghost use mathlib.Core.Bool.{cond, not, _&&_};
 ghost use lib.Dec.{eqb};
+ghost use lib.ListN.{set};
 ghost use Rattle.rules.specs.Queues.{targetOf, moveAnswer, remaining, moved, due, dueAt, movesUsed, mostMoves};
 ghost use Rattle.rules.specs.State.{queues};
-ghost use Rattle.record.specs.Layout.{stateIn, hostIn, configIn};
+ghost use Rattle.record.specs.Layout.{stateIn, hostIn, configIn, byteOf};
 ghost use Rattle.bind.specs.Moves.{moveBytes, movesBytes, sweepBytes};
 
 // What a sweep reports: the moves it made, and whether any remain.
 pub struct Swept {
     pub used: u32,
     pub more: bool,
+}
+
+// What a queue needs: the moves that it is from its target, and the target.
+struct Need {
+    due: u32,
+    target: Driver,
 }
 
 // The driver that a queue should have.
@@ -122,9 +129,21 @@ fn due_at(s: &[u64; WORDS], q: &[u8; 65536], k: usize) -> u32
     requires { ⌜ k < 65536 ⌝ }
     ensures { λ r. ⌜ r ≡ dueAt (stateIn (now (s .entry)) (now (q .entry))) k ⌝ }
 {
+    let need = need_at(s, q, k);
+    need.due
+}
+
+// What queue k needs. Its target is computed once.
+fn need_at(s: &[u64; WORDS], q: &[u8; 65536], k: usize) -> Need
+    requires { ⌜ k < 65536 ⌝ }
+    ensures due { λ r. ⌜ r .due ≡ dueAt (stateIn (now (s .entry)) (now (q .entry))) k ⌝ }
+    ensures target { λ r. ⌜ r .target ≡ targetOf (hostIn (now (s .entry))) (configIn (now (s .entry))) k ⌝ }
+{
     let a = Apid((k / 256 % 256) as u8);
     let d = Apqi((k % 256) as u8);
-    due_by(record::driver(q, a, d), target(s, a, d))
+    let t = target(s, a, d);
+    let n = due_by(record::driver(q, a, d), t);
+    Need { due: n, target: t }
 }
 
 // The moves remaining, over all queues.
@@ -151,7 +170,9 @@ pub fn sweep(s: &[u64; WORDS], q: &mut [u8; 65536], budget: u32) -> Swept
     let mut left = most;
     let mut k: usize = 0;
     while k < 65536 {
-        let n = due_at(s, q, k);
+        let need = need_at(s, q, k);
+        let n = need.due;
+        let t = need.target;
         if left < n {
             settle(s, q, k, left);
             return Swept {
@@ -159,7 +180,7 @@ pub fn sweep(s: &[u64; WORDS], q: &mut [u8; 65536], budget: u32) -> Swept
                 more: true,
             };
         }
-        settle(s, q, k, n);
+        finish(q, k, n, t);
         left = left - n;
         k += 1;
     }
@@ -175,14 +196,27 @@ fn settle(s: &[u64; WORDS], q: &mut [u8; 65536], k: usize, n: u32)
     requires { ⌜ (k < 65536) × (n ≤ 2) ⌝ }
     ensures { λ r. ⌜ now (q .exit) ≡ movesBytes (now (s .entry)) n k (now (q .entry)) ⌝ }
 {
+    let a = Apid((k / 256 % 256) as u8);
+    let d = Apqi((k % 256) as u8);
+    if n == 0 {
+        return;
+    }
+    move_queue(s, q, a, d);
+    if n == 1 {
+        return;
+    }
+    move_queue(s, q, a, d);
+}
+
+// Makes all n moves that queue k is from its target t: the driver after the last is the target.
+fn finish(q: &mut [u8; 65536], k: usize, n: u32, t: Driver)
+    requires { ⌜ k < 65536 ⌝ }
+    ensures { λ r. ⌜ now (q .exit) ≡ cond (eqb n 0) (now (q .entry)) (set (now (q .entry)) k (byteOf t)) ⌝ }
+{
     let adapter = Apid((k / 256 % 256) as u8);
     let domain = Apqi((k % 256) as u8);
     if n == 0 {
         return;
     }
-    move_queue(s, q, adapter, domain);
-    if n == 1 {
-        return;
-    }
-    move_queue(s, q, adapter, domain);
+    record::put_driver(q, adapter, domain, t);
 }

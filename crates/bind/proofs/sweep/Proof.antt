@@ -4,13 +4,14 @@ use Prim.Native.Nat.{ℕ, _+_, _-_, _<_, min}
 use native.Mathlib.Omega.{arith}
 use mathlib.Core.Path.{_≡_, sym, ap, subst, _∙_}
 use mathlib.Core.List.{List}
+use lib.ListN.{length}
 use mathlib.Core.Logic.{⊎-elim}
 use denote.Ref.{now}
 use borrow.Author.Tests.{lt-ltb, le-ltb}
 use Rattle.rules.specs.Queues.{dueAt, remaining, movesUsed}
 use Rattle.record.specs.Layout.{stateIn}
 use Rattle.bind.specs.Moves.{sweepBytes}
-use Rattle.bind.proofs.Laws.{Sweeping, due-two, sweep-starts, sweep-goes-on, sweep-stops, made-fewer, sweep-ends, remaining-sum, sweep-more}
+use Rattle.bind.proofs.Laws.{Sweeping, finished, due-two, as-long, sweep-starts, sweep-goes-on, sweep-stops, made-fewer, sweep-ends, remaining-sum, sweep-more}
 use borrow.Author.Needs.{needs}
 use Rattle.bind.proofs.sweep.Statement.{statement}
 use Rattle.bind.proofs.sweep.Tie as tie
@@ -29,13 +30,13 @@ loop-holds c =
     let a = c .before .before .before .args in
     (⊎-elim (λ w. omega arith) (λ w. omega arith) (c .if1 .came), sweep-starts (now (a .s)) (now (a .q)) 65536 (c .if1 .most))
 
-due-at-requires : tie.Need-due-at-requires Inv-loop μ-loop
-due-at-requires c κs = search needs
+need-at-requires : tie.Need-need-at-requires Inv-loop μ-loop
+need-at-requires c κs = search needs
 
 settle-requires : tie.Need-settle-requires Inv-loop μ-loop
 settle-requires c κs =
     let l = c .before .before .before .before .before .loop in
-    (search needs, omega (arith, c .before .before .due-at .ensures, due-two (stateIn (now (c .before .before .before .before .before .before .before .before .before .args .s)) (l .q)) (l .k)))
+    (search needs, omega (arith, c .before .before .need-at .ensures .0, due-two (stateIn (now (c .before .before .before .before .before .before .before .before .before .args .s)) (l .q)) (l .k)))
 
 returns : tie.Need-returns Inv-loop μ-loop
 unfolding movesUsed
@@ -44,7 +45,7 @@ returns c =
     let rs = now (c .before .before .before .before .before .before .before .before .before .before .args .q) in
     let most = c .before .before .before .before .before .before .before .if1 .most in
     let l = c .before .before .before .before .before .before .loop in
-    let short : l .left < dueAt (stateIn ws (l .q)) (l .k) = omega (arith, c .before .before .before .due-at .ensures) in
+    let short : l .left < dueAt (stateIn ws (l .q)) (l .k) = omega (arith, c .before .before .before .need-at .ensures .0) in
     let fewer : most < remaining (stateIn ws rs) =
     omega (arith, made-fewer ws rs 65536 most (l .k) (l .left) (l .q) (l .inv .1) (omega arith) short, remaining-sum (stateIn ws rs)) in
     let bytes : c .settle .last .1 .0 ≡ sweepBytes ws 65536 0 most rs =
@@ -56,10 +57,8 @@ returns c =
       ),
     )
 
-settle-requires-2 : tie.Need-settle-requires-2 Inv-loop μ-loop
-settle-requires-2 c κs =
-    let l = c .before .before .before .before .before .loop in
-    (search needs, omega (arith, c .before .before .due-at .ensures, due-two (stateIn (now (c .before .before .before .before .before .before .before .before .before .args .s)) (l .q)) (l .k)))
+finish-requires : tie.Need-finish-requires Inv-loop μ-loop
+finish-requires c κs = search needs
 
 add-k : tie.Need-add-k Inv-loop μ-loop
 add-k c = search needs
@@ -73,10 +72,14 @@ loop-again c =
     let rs = now (c .before .before .before .before .before .before .before .before .before .before .before .args .q) in
     let most = c .before .before .before .before .before .before .before .before .if1 .most in
     let l = c .before .before .before .before .before .before .before .loop in
-    let m = c .before .before .before .before .due-at .result in (
+    let need = c .before .before .before .before .need-at in
+    let m = need .result .due in
+    let t = need .result .target in
+    let long : l .k < length (l .q) =
+    omega (arith, as-long ws rs 65536 most (l .k) (l .left) (l .q) (l .inv .1) (omega arith), c .before .before .before .before .before .before .before .before .before .hold-drivers .ensures .long) in (
       l .inv .0,
-      subst (λ (qs : List ℕ). Sweeping ws rs 65536 most (l .k + 1) (l .left - m) qs) (sym (c .before .settle2 .ensures))
-          (sweep-goes-on ws rs 65536 most (l .k) (l .left) (l .q) (l .inv .1) (omega arith) m (c .before .before .before .before .due-at .ensures) (omega arith)),
+      subst (λ (qs : List ℕ). Sweeping ws rs 65536 most (l .k + 1) (l .left - m) qs) (sym (c .before .finish .ensures ∙ finished ws (l .q) (l .k) m t long (need .ensures .0) (need .ensures .1)))
+          (sweep-goes-on ws rs 65536 most (l .k) (l .left) (l .q) (l .inv .1) (omega arith) m (need .ensures .0) (omega arith)),
     )
 
 sub-made : tie.Need-sub-made Inv-loop μ-loop
@@ -106,10 +109,10 @@ sweep-spec =
     μ-loop
     hold-drivers-requires
     loop-holds
-    due-at-requires
+    need-at-requires
     settle-requires
     returns
-    settle-requires-2
+    finish-requires
     add-k
     loop-less
     loop-again
