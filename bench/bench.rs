@@ -163,7 +163,12 @@ impl Service {
                 if self.apmask.has(n) && self.aqmask.meets(&domains) {
                     return 99;
                 }
-                if self.devices.iter().enumerate().any(|(j, v)| j != i && v.adapters.has(n) && v.domains.meets(&domains)) {
+                if self
+                    .devices
+                    .iter()
+                    .enumerate()
+                    .any(|(j, v)| j != i && v.adapters.has(n) && v.domains.meets(&domains))
+                {
                     return 98;
                 }
                 self.devices[i].adapters.set(n);
@@ -176,7 +181,12 @@ impl Service {
                 if self.aqmask.has(n) && self.apmask.meets(&adapters) {
                     return 99;
                 }
-                if self.devices.iter().enumerate().any(|(j, v)| j != i && v.domains.has(n) && v.adapters.meets(&adapters)) {
+                if self
+                    .devices
+                    .iter()
+                    .enumerate()
+                    .any(|(j, v)| j != i && v.domains.has(n) && v.adapters.meets(&adapters))
+                {
                     return 98;
                 }
                 self.devices[i].domains.set(n);
@@ -410,7 +420,12 @@ fn best(rounds: usize, mut round: impl FnMut() -> [Duration; 2]) -> [Duration; 2
 
 fn show(name: &str, calls: u32, [rattle, rust]: [Duration; 2]) {
     let each = |d: Duration| d.as_nanos() as f64 / calls as f64;
-    println!("{name:72} Rattle {:10.1} ns   Rust {:10.1} ns   ratio {:.2}", each(rattle), each(rust), each(rattle) / each(rust));
+    println!(
+        "{name:72} Rattle {:10.1} ns   Rust {:10.1} ns   ratio {:.2}",
+        each(rattle),
+        each(rust),
+        each(rattle) / each(rust)
+    );
 }
 
 struct Random(u64);
@@ -519,7 +534,8 @@ fn assigns() {
                         for (c, answer) in batch.iter().zip(&mut answers[part.clone()]) {
                             let (hi, lo) = pairs[c.device as usize];
                             let text = black_box(&c.text).as_ptr();
-                            *answer = unsafe { zk_assign(both.words.as_mut_ptr(), hi, lo, c.kind, text, c.length as usize) };
+                            *answer =
+                                unsafe { zk_assign(both.words.as_mut_ptr(), hi, lo, c.kind, text, c.length as usize) };
                         }
                     });
                 } else {
@@ -539,9 +555,16 @@ fn assigns() {
     });
     let count = |value| answers.iter().filter(|&&a| a == value).count();
     let counts = [count(0), count(98), count(99)];
-    assert_eq!(counts, [BATCHES * BATCH_ACCEPTED, BATCHES * BATCH_IN_USE, BATCHES * (BATCH - BATCH_ACCEPTED - BATCH_IN_USE)]);
+    assert_eq!(
+        counts,
+        [BATCHES * BATCH_ACCEPTED, BATCHES * BATCH_IN_USE, BATCHES * (BATCH - BATCH_ACCEPTED - BATCH_IN_USE)]
+    );
     assert!(counts.iter().all(|&n| n >= 300_000));
-    show(&format!("assign with text: {} accepted, {} 98, {} 99", counts[0], counts[1], counts[2]), (BATCHES * BATCH) as u32, times);
+    show(
+        &format!("assign with text: {} accepted, {} 98, {} 99", counts[0], counts[1], counts[2]),
+        (BATCHES * BATCH) as u32,
+        times,
+    );
 }
 
 // ---------------------------------------------------------------------------------------------------------------------
@@ -561,7 +584,8 @@ fn configures() {
         let rattle = timed(|| {
             for k in 0..CALLS {
                 let bytes = black_box(&configurations[k % 2]);
-                let answer = unsafe { zk_configure(both.words.as_mut_ptr(), both.drivers.as_mut_ptr(), bytes.as_ptr()) };
+                let answer =
+                    unsafe { zk_configure(both.words.as_mut_ptr(), both.drivers.as_mut_ptr(), bytes.as_ptr()) };
                 assert_eq!(black_box(answer), 0);
             }
         });
@@ -588,7 +612,8 @@ fn sweeps() {
         both.set_masks(now, Mask::ALL);
         let (mut used, mut more, mut answer) = (0, 9, (0, true));
         let rattle = timed(|| {
-            used = unsafe { zk_sweep(both.words.as_ptr(), both.drivers.as_mut_ptr(), black_box(MOST_MOVES), &mut more) };
+            used =
+                unsafe { zk_sweep(both.words.as_ptr(), both.drivers.as_mut_ptr(), black_box(MOST_MOVES), &mut more) };
         });
         let rust = timed(|| answer = both.service.sweep(&mut both.other, black_box(MOST_MOVES)));
         assert_eq!(((used, more), answer), ((MOST_MOVES, 0), (MOST_MOVES, false)));

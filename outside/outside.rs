@@ -498,7 +498,11 @@ impl Record {
     }
 
     fn matrix(&self, p: usize, matrix: u8) -> [Set; 3] {
-        if matrix == 0 { self.devices[p].assigned } else { self.guest(p) }
+        if matrix == 0 {
+            self.devices[p].assigned
+        } else {
+            self.guest(p)
+        }
     }
 
     fn list(&self, id: &Id, matrix: u8, place: usize, length: usize) -> Listing {
@@ -676,7 +680,11 @@ struct Run {
 }
 
 fn equal<T: PartialEq + fmt::Debug>(name: &str, got: T, expected: T) -> Result<(), String> {
-    if got == expected { Ok(()) } else { Err(format!("{name}: {got:?}, expected {expected:?}")) }
+    if got == expected {
+        Ok(())
+    } else {
+        Err(format!("{name}: {got:?}, expected {expected:?}"))
+    }
 }
 
 impl Run {
@@ -1091,7 +1099,25 @@ fn damage(random: &mut Random, text: &mut Vec<u8>) {
         8 => text.truncate(at),
         9 => text.insert(0, *random.pick(b"+-0 \n")),
         10 => text.extend(b"0000000000000000"),
-        _ => *text = random.pick(&[&b"0x"[..], b"08", b"0X5", b"-1", b"+", b",", b"0x\n", b"\n", b"+256", b"0xg", b"+5,", b",+5", b"+5,,+6"]).to_vec(),
+        _ => {
+            *text = random
+                .pick(&[
+                    &b"0x"[..],
+                    b"08",
+                    b"0X5",
+                    b"-1",
+                    b"+",
+                    b",",
+                    b"0x\n",
+                    b"\n",
+                    b"+256",
+                    b"0xg",
+                    b"+5,",
+                    b",+5",
+                    b"+5,,+6",
+                ])
+                .to_vec()
+        }
     }
 }
 
@@ -1101,7 +1127,18 @@ fn number_text(random: &mut Random, numbers: &[u8], highest: u64) -> Vec<u8> {
         1 => highest + 1,
         2 => random.below(256),
         3 => 256 + random.below(65_280),
-        4 => *random.pick(&[255, 256, 257, 65_535, 65_536, 65_537, 131_072, 4_294_967_296, 4_294_967_301, 9_999_999_999_999_999]),
+        4 => *random.pick(&[
+            255,
+            256,
+            257,
+            65_535,
+            65_536,
+            65_537,
+            131_072,
+            4_294_967_296,
+            4_294_967_301,
+            9_999_999_999_999_999,
+        ]),
         _ => *random.pick(numbers) as u64,
     };
     let mut text = spell(random, value).into_bytes();
@@ -1342,7 +1379,11 @@ impl Run {
                     _ => number_text(random, &pool.numbers[kind_of(kind).min(DOMAIN)], highest),
                 };
                 // taken away less often than given, so that products grow
-                if random.one_in(4) { Call::Unassign(id, kind, text) } else { Call::Assign(id, kind, text) }
+                if random.one_in(4) {
+                    Call::Unassign(id, kind, text)
+                } else {
+                    Call::Assign(id, kind, text)
+                }
             }
             725..=764 => Call::Apmask(mask_text(random, &pool.numbers[ADAPTER], pool.plus)),
             765..=804 => Call::Aqmask(mask_text(random, &pool.numbers[DOMAIN], pool.plus)),
@@ -1390,7 +1431,11 @@ impl Run {
         let (mut words, mut drivers) = (self.words.inside().to_vec(), self.drivers.inside().to_vec());
         if self.random.one_in(2) {
             let at = self.random.below(WORDS as u64) as usize;
-            words[at] = if self.random.one_in(2) { odd_value(&mut self.random) } else { words[at] ^ 1 << self.random.below(64) };
+            words[at] = if self.random.one_in(2) {
+                odd_value(&mut self.random)
+            } else {
+                words[at] ^ 1 << self.random.below(64)
+            };
         } else {
             drivers[self.random.below(65_536) as usize] = self.random.next() as u8;
         }
@@ -1489,7 +1534,17 @@ impl Run {
                         let long = text.len() > 16;
                         for call in [Call::Assign(id, kind as u8, text.clone()), Call::Unassign(id, kind as u8, text)] {
                             let answer = self.call(&call)?;
-                            equal("a number at a limit", answer, if long { 22 } else if n > limit { 19 } else { 0 })?;
+                            equal(
+                                "a number at a limit",
+                                answer,
+                                if long {
+                                    22
+                                } else if n > limit {
+                                    19
+                                } else {
+                                    0
+                                },
+                            )?;
                         }
                     }
                     for n in [limit, limit + 1] {
@@ -1506,7 +1561,9 @@ impl Run {
         for budget in [0, 1, 131_070, 131_071, 131_072, 131_073, 1 << 31, u32::MAX] {
             // every queue goes from host to passthrough
             let all = [[255; 96].as_slice(), &[10; 256]].concat();
-            for call in [Call::Fresh(255, 255), Call::Configure(all), Call::Sweep(u32::MAX), Call::Apmask(b"0x0".to_vec())] {
+            for call in
+                [Call::Fresh(255, 255), Call::Configure(all), Call::Sweep(u32::MAX), Call::Apmask(b"0x0".to_vec())]
+            {
                 self.call(&call)?;
             }
             equal("remaining", self.view_remaining()?, 131_072)?;
@@ -1572,7 +1629,9 @@ impl Run {
         gives!(0, Call::Aqmask(text("0x0")));
         gives!(0, Call::Create(one));
         gives!(0, Call::Create(two));
-        for (id, kind, n) in [(one, 0, "1"), (one, 0, "2"), (one, 1, "5"), (one, 1, "6"), (two, 0, "1"), (two, 0, "2"), (two, 1, "7")] {
+        for (id, kind, n) in
+            [(one, 0, "1"), (one, 0, "2"), (one, 1, "5"), (one, 1, "6"), (two, 0, "1"), (two, 0, "2"), (two, 1, "7")]
+        {
             gives!(0, Call::Assign(id, kind, text(n)));
         }
         gives!(98, Call::Assign(two, 1, text("6")));
@@ -1742,20 +1801,31 @@ fn main() {
         }
     };
     let seconds = clock.begin.elapsed().as_secs_f64();
-    println!("seed {seed}: {} steps in {seconds:.1} s, on {} fresh records and {} handed in ({} words or drivers changed between steps)", run.steps, run.fresh, run.handed_in, run.pokes);
+    println!("seed {seed}: {} steps in {seconds:.1} s", run.steps);
+    println!(
+        "  records: {} fresh, {} handed in; {} words or drivers changed between steps",
+        run.fresh, run.handed_in, run.pokes
+    );
     println!("  phases: settings {settings}, limits {limits}, full {full}, long {long}");
     println!("  commands: {} accepted; refused:", run.accepted);
     for (value, name) in NAMES {
-        println!("    {value:2} {name:13} {:9}   (by listings and masks {})", run.refused[value as usize], run.view_refused[value as usize]);
+        println!(
+            "    {value:2} {name:13} {:9}   (by listings and masks {})",
+            run.refused[value as usize], run.view_refused[value as usize]
+        );
     }
     let [idle, released, host, passthrough] = run.moves;
     println!("  moves: {idle} idle, {released} released, {host} bound to host, {passthrough} bound to passthrough");
     println!("  sweeps: {}, of {} moves", run.sweeps, run.swept);
-    println!("  after every step: the answer, {WORDS} words, {QUEUES} drivers, each buffer lent, {EDGE} guard places on either side");
-    println!("  full phase, after every step: the remainder, and of every device (and one id more) both matrices' masks, two listings and 24 queues");
-    println!("  long phase, after every step: one queue; after every {SAMPLE}th: the remainder, and of one device the same with 8 queues");
+    println!("  compared after every step: the answer, {WORDS} words, {QUEUES} drivers, each buffer lent and");
+    println!("    {EDGE} guard places on either side of each");
+    println!("  full phase, after every step: the remainder; of every device, and of one id more,");
+    println!("    the masks and a listing of both matrices, and whether 24 queues are usable");
+    println!("  long phase, after every step: whether one queue is usable; after every {SAMPLE}th: the remainder,");
+    println!("    and of one device the masks and a listing of both matrices, and 8 queues");
     println!("  so asked: {} masks, listings, names and remainders, and {} queues", run.views, run.usables);
-    let missing: Vec<&str> = NAMES.iter().filter(|(v, _)| run.refused[*v as usize] == 0).map(|(_, name)| *name).collect();
+    let missing: Vec<&str> =
+        NAMES.iter().filter(|(v, _)| run.refused[*v as usize] == 0).map(|(_, name)| *name).collect();
     if !missing.is_empty() {
         println!("NOT MET: {}", missing.join(", "));
         std::process::exit(1);
