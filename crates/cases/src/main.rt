@@ -1,5 +1,5 @@
-// Calls every function of the service, and prints what each answers. The expected output was worked out from 01; the
-// Python model in tests/cases.py says it once more.
+// Calls every function of the service, and prints what each answers. The expected output was made by tests/cases.py with
+// a model in Python, not taken from a run, and gone through by hand with 01.
 use errno::Errno;
 use guest::Shown;
 use listing::Listed;

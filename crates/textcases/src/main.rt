@@ -1,5 +1,5 @@
-// Reads texts of numbers and masks, and prints what each comes to. The expected output was worked out from 01, 000 and
-// 003, and not taken from a run; tests/textcases.py says it once more.
+// Reads texts of numbers and masks, and prints what each comes to. The expected output was made by tests/textcases.py,
+// which is written from 01's rules and shares no code with the readers, and not taken from a run.
 use errno::Errno;
 use mask::Mask;
 use number::Number;
