@@ -10,7 +10,7 @@ use lib.Dec.{eqb, leb}
 use borrow.Author.Tests.{eqb-true, leb-true}
 use Rattle.errno.specs.Outcome.{Outcome, granted, refused}
 use Rattle.errno.specs.Errno.{numberOf}
-use Rattle.errno.specs.declared.Errno.the-variants.{Einval}
+use Rattle.errno.specs.declared.Errno.the-variants.{Enodev, Einval, Eaddrinuse, Eaddrnotavail}
 use Rattle.mask.specs.declared.Mask.{Mask}
 use Rattle.mask.specs.Bits.{Bits, bits, someBelow, both, included, noBits}
 use Rattle.mask.proofs.Laws.{Words}
@@ -20,12 +20,12 @@ use Rattle.rules.specs.declared.Answer.the-variants.{Refused}
 use Rattle.rules.specs.declared.Id.{Id}
 use Rattle.rules.specs.declared.Kind.{Kind}
 use Rattle.rules.specs.declared.Kind.the-variants.{Adapter, Domain, Control}
-use Rattle.rules.specs.State.{State, places, queues, inProduct}
+use Rattle.rules.specs.State.{State, slots, queues, inProduct}
 use Rattle.rules.specs.Queues.{reserved}
-use Rattle.rules.specs.Commands.{numbersOf, withNumbers, withDevice, single, onDevice, placeOf, limitOf, reading, assignAt, adding, paired, assignedElsewhere}
+use Rattle.rules.specs.Commands.{numbersOf, withNumbers, withDevice, single, onDevice, slotOf, limitOf, reading, assignAt, adding, paired, assignedElsewhere}
 use Rattle.record.specs.Carried.{Carried}
 use Rattle.record.specs.Held.{Held}
-use Rattle.record.specs.Layout.{four, maskAt, deviceIn, limitsIn, hostIn, stateIn, wordsOf, putFour, putNumbers, deviceAt, kindAt}
+use Rattle.record.specs.Layout.{wordCount, four, maskAt, deviceIn, limitsIn, hostIn, stateIn, wordsOf, putFour, putNumbers, deviceAt, kindAt}
 use Rattle.record.proofs.Laws.{cond-below, device-there, numbers-there, words-of, put-same, read-numbers, refused-carried}
 use Rattle.lookup.proofs.Found.{known}
 use Rattle.assign.specs.Numbers.{value, changed}
@@ -45,7 +45,7 @@ absorbed n m h = fun-ext (λ i. go i (eqb i n) refl)
     go i false e = refl
 
 -- four of the record's words
-four-words : {ws : List ℕ} → Held 64 406 ws → (k : ℕ) → Words 64 4 (four ws k)
+four-words : {ws : List ℕ} → Held 64 wordCount ws → (k : ℕ) → Words 64 4 (four ws k)
 four-words {ws} h k = record { long = refl; small = go }
   where
     go : (q : ℕ) → getD (four ws k) q 0 < 2 ^ 64
@@ -55,7 +55,7 @@ four-words {ws} h k = record { long = refl; small = go }
     go (suc (suc (suc zero))) = h .small (k + 3)
     go (suc (suc (suc (suc q)))) = omega arith
 
-module _ (ws : List ℕ) (k : Kind) (p : ℕ) (held : Held 64 406 ws) (there : p < places) where
+module _ (ws : List ℕ) (k : Kind) (p : ℕ) (held : Held 64 wordCount ws) (there : p < slots) where
   -- an assigned number leaves the words as they are
   pub same-words : (n : ℕ) → numbersOf k (deviceIn ws p) n ≡ true → ws ≡ changed ws k p (included n)
   unfolding changed putNumbers maskAt
@@ -63,7 +63,7 @@ module _ (ws : List ℕ) (k : Kind) (p : ℕ) (held : Held 64 406 ws) (there : p
       let at = deviceAt p + kindAt k in
       sym (ap (λ (m : Bits). putNumbers ws p k (wordsOf m))
       (absorbed n (numbersOf k (deviceIn ws p)) e ∙ ap (numbersOf k) (device-there ws p there) ∙ numbers-there ws p k)
-      ∙ ap (putNumbers ws p k) (words-of (four-words held at)) ∙ cond-below p places (putFour ws at (four ws at)) ws there ∙ put-same ws at)
+      ∙ ap (putNumbers ws p k) (words-of (four-words held at)) ∙ cond-below p slots (putFour ws at (four ws at)) ws there ∙ put-same ws at)
 
   module _ (f : Bits → Bits) (m : Mask) (words : Words 64 4 (m .words)) (made : bits m ≡ f (numbersOf k (deviceIn ws p))) where
     -- the words once a changed mask is put
@@ -89,16 +89,16 @@ limit-small Control ws = omega arith
 pub in-range-small : (k : Kind) (ws : List ℕ) (n : ℕ) → leb n (limitOf k (limitsIn ws)) ≡ true → n % 256 ≡ n
 in-range-small k ws n e = omega (arith, leb-true n (limitOf k (limitsIn ws)) e, limit-small k ws)
 
--- the device is at place p, and t says whether the number is in range
-pub by-range : (k : Kind) (i : Id) (n : ℕ) (ws qs : List ℕ) (p : ℕ) → p ≡ placeOf i (deviceIn ws) → p < places → (t : Bool) → t ≡ leb n (limitOf k (limitsIn ws))
+-- the device is at slot p, and t says whether the number is in range
+pub by-range : (k : Kind) (i : Id) (n : ℕ) (ws qs : List ℕ) (p : ℕ) → p ≡ slotOf i (deviceIn ws) → p < slots → (t : Bool) → t ≡ leb n (limitOf k (limitsIn ws))
     → (next : ℕ → Outcome State)
-    → onDevice i (stateIn ws qs) (λ j. cond (leb n (limitOf k (stateIn ws qs .limits))) (next j) (refused 19)) ≡ cond t (next p) (refused 19)
+    → onDevice i (stateIn ws qs) (λ j. cond (leb n (limitOf k (stateIn ws qs .limits))) (next j) (refused Enodev)) ≡ cond t (next p) (refused Enodev)
 unfolding stateIn
 by-range k i n ws qs p at there t e next =
-    known i ws qs p at (λ j. cond (leb n (limitOf k (limitsIn ws))) (next j) (refused 19)) there
-    ∙ ap (λ (b : Bool). cond b (next p) (refused 19)) (sym e)
+    known i ws qs p at (λ j. cond (leb n (limitOf k (limitsIn ws))) (next j) (refused Enodev)) there
+    ∙ ap (λ (b : Bool). cond b (next p) (refused Enodev)) (sym e)
 
--- ---- the rule at a place
+-- ---- the rule at a slot
 
 module _ (k : Kind) (n p : ℕ) (ws qs : List ℕ) where
   -- the record with the number assigned
@@ -114,11 +114,11 @@ module _ (k : Kind) (n p : ℕ) (ws qs : List ℕ) where
   pub new-number : (us ds : Bits) → inProduct us ds ≡ paired k n (deviceIn ws p) → numbersOf k (deviceIn ws p) n ≡ false
       → {x y : Bool} → someBelow queues (both (inProduct us ds) (reserved (hostIn ws))) ≡ x
       → someBelow queues (both (inProduct us ds) (assignedElsewhere p (deviceIn ws))) ≡ y
-      → assignAt k n p (stateIn ws qs) ≡ cond x (refused 99) (cond y (refused 98) (granted numbered))
+      → assignAt k n p (stateIn ws qs) ≡ cond x (refused Eaddrnotavail) (cond y (refused Eaddrinuse) (granted numbered))
   unfolding assignAt adding stateIn
   new-number us ds pairs none hx hy =
       ap (λ (b : Bool). cond b (granted (stateIn ws qs)) (adding (paired k n (deviceIn ws p)) p (stateIn ws qs) numbered)) none
-      ∙ ap₂ (λ (x y : Bool). cond x (refused 99) (cond y (refused 98) (granted numbered)))
+      ∙ ap₂ (λ (x y : Bool). cond x (refused Eaddrnotavail) (cond y (refused Eaddrinuse) (granted numbered)))
       (ap (λ (m : Bits). someBelow queues (both m (reserved (hostIn ws)))) (sym pairs) ∙ hx)
       (ap (λ (m : Bits). someBelow queues (both m (assignedElsewhere p (deviceIn ws)))) (sym pairs) ∙ hy)
 
@@ -133,7 +133,7 @@ module _ (rule : ℕ → State → Outcome State) (effect : ℕ → List ℕ) (t
       subst (λ (o : Outcome ℕ). Carried (rule n) (effect n) ws after r → Carried (λ s. reading o (λ m. rule m s)) (effect (value o)) ws after r) (sym e) (λ h. h)
 
   -- bad text
-  pub by-none : numberText text ≡ refused 22 → Carried (λ s. reading (numberText text) (λ m. rule m s)) (effect (value (numberText text))) ws ws (Refused Einval)
+  pub by-none : numberText text ≡ refused Einval → Carried (λ s. reading (numberText text) (λ m. rule m s)) (effect (value (numberText text))) ws ws (Refused Einval)
   unfolding reading numberOf
   by-none e =
       refused-carried (λ s. reading (numberText text) (λ m. rule m s)) _ ws Einval

@@ -7,7 +7,7 @@ use Rattle.mask.specs.Bits.{Bits, included, excluded}
 use Rattle.number.specs.Text.{numberText}
 use Rattle.rules.specs.declared.Id.{Id}
 use Rattle.rules.specs.declared.Kind.{Kind}
-use Rattle.rules.specs.Commands.{placeOf, numbersOf}
+use Rattle.rules.specs.Commands.{slotOf, numbersOf}
 use Rattle.record.specs.Layout.{deviceIn, putNumbers, wordsOf}
 
 -- the value of a text's number; bad text has none, and 0 stands for it
@@ -21,8 +21,8 @@ changed ws k p f = putNumbers ws p k (wordsOf (f (numbersOf k (deviceIn ws p))))
 
 -- the words with the text's number assigned
 unfoldable pub withNumber : List ℕ → Kind → Id → List ℕ → List ℕ
-withNumber ws k i text = changed ws k (placeOf i (deviceIn ws)) (included (value (numberText text)))
+withNumber ws k i text = changed ws k (slotOf i (deviceIn ws)) (included (value (numberText text)))
 
 -- the words with the text's number taken away
 unfoldable pub withoutNumber : List ℕ → Kind → Id → List ℕ → List ℕ
-withoutNumber ws k i text = changed ws k (placeOf i (deviceIn ws)) (excluded (value (numberText text)))
+withoutNumber ws k i text = changed ws k (slotOf i (deviceIn ws)) (excluded (value (numberText text)))

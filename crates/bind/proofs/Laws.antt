@@ -171,7 +171,7 @@ exchange ws qs k t h f g =
 -- the bytes after all moves that are due, by the driver that the queue has and its target
 finished-by : (ws qs : List ℕ) (k : ℕ) (v t : Driver) → k < length qs → driverOf (getD qs k 0) ≡ v → targetOf (hostIn ws) (configIn ws) k ≡ t
     → cond (eqb (due v t) 0) qs (set qs k (byteOf t)) ≡ movesBytes ws (due v t) k qs
-unfolding due moved bytesAfter
+unfolding bytesAfter
 finished-by ws qs k Unbound Unbound h e f = sym (no-moves ws k qs)
 finished-by ws qs k Unbound Host h e f = step ws qs k Unbound Host e f ∙ sym (one-move ws k qs)
 finished-by ws qs k Unbound Passthrough h e f = step ws qs k Unbound Passthrough e f ∙ sym (one-move ws k qs)

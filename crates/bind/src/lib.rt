@@ -3,7 +3,8 @@
 // Rests on mask, rules and record.
 use mask::Apid;
 use mask::Apqi;
-use record::WORDS;
+use record::Drivers;
+use record::Words;
 use rules::Driver;
 use rules::Moved;
 ghost use mathlib.Core.Path.{_≡_};
@@ -29,72 +30,72 @@ struct Need {
 }
 
 // The driver that a queue should have.
-pub fn target(s: &[u64; WORDS], a: Apid, d: Apqi) -> Driver
-    ensures { λ r. ⌜ r ≡ targetOf (hostIn (now (s .entry))) (configIn (now (s .entry))) (a .0 * 256 + d .0) ⌝ }
+pub fn target(words: &Words, adapter: Apid, domain: Apqi) -> Driver
+    ensures { λ r. ⌜ r ≡ targetOf (hostIn (now (words .entry))) (configIn (now (words .entry))) (adapter .0 * 256 + domain .0) ⌝ }
 {
-    let n = a.0;
-    let m = d.0;
-    if !record::configured_adapters(s).has(n) {
+    let apid = adapter.0;
+    let apqi = domain.0;
+    if !record::configured_adapters(words).has(apid) {
         return Driver::Unbound;
     }
-    if !record::configured_domains(s).has(m) {
+    if !record::configured_domains(words).has(apqi) {
         return Driver::Unbound;
     }
-    if reserved(s, n, m) {
+    if reserved(words, apid, apqi) {
         return Driver::Host;
     }
-    if record::hardware_type(s, a) < 10 {
+    if record::hardware_type(words, adapter) < 10 {
         return Driver::Unbound;
     }
     Driver::Passthrough
 }
 
 // Whether adapter n and domain m are both in the host's masks.
-fn reserved(s: &[u64; WORDS], n: u8, m: u8) -> bool
-    ensures { λ r. ⌜ r ≡ (hostIn (now (s .entry)) .apmask n && hostIn (now (s .entry)) .aqmask m) ⌝ }
+fn reserved(words: &Words, adapter: u8, domain: u8) -> bool
+    ensures { λ r. ⌜ r ≡ (hostIn (now (words .entry)) .apmask adapter && hostIn (now (words .entry)) .aqmask domain) ⌝ }
 {
-    if !record::apmask(s).has(n) {
+    if !record::apmask(words).has(adapter) {
         return false;
     }
-    record::aqmask(s).has(m)
+    record::aqmask(words).has(domain)
 }
 
 // Moves one queue a step towards its target. It is never refused.
-pub fn move_queue(s: &[u64; WORDS], q: &mut [u8; 65536], a: Apid, d: Apqi) -> Moved
-    ensures answer { λ r. ⌜ r ≡ moveAnswer (a .0 * 256 + d .0) (stateIn (now (s .entry)) (now (q .entry))) ⌝ }
-    ensures drivers { λ r. ⌜ now (q .exit) ≡ moveBytes (now (s .entry)) (a .0 * 256 + d .0) (now (q .entry)) ⌝ }
+pub fn move_queue(words: &Words, drivers: &mut Drivers, adapter: Apid, domain: Apqi) -> Moved
+    ensures answer { λ r. ⌜ r ≡ moveAnswer (adapter .0 * 256 + domain .0) (stateIn (now (words .entry)) (now (drivers .entry))) ⌝ }
+    ensures drivers { λ r. ⌜ now (drivers .exit) ≡ moveBytes (now (words .entry)) (adapter .0 * 256 + domain .0) (now (drivers .entry)) ⌝ }
 {
-    let m = moved_by(record::driver(q, a, d), target(s, a, d));
+    let m = moved_by(record::driver(drivers, adapter, domain), target(words, adapter, domain));
     match m {
         Moved::Idle => {}
         Moved::Released => {
-            record::put_driver(q, a, d, Driver::Unbound);
+            record::put_driver(drivers, adapter, domain, Driver::Unbound);
         }
         Moved::BoundHost => {
-            record::put_driver(q, a, d, Driver::Host);
+            record::put_driver(drivers, adapter, domain, Driver::Host);
         }
         Moved::BoundPassthrough => {
-            record::put_driver(q, a, d, Driver::Passthrough);
+            record::put_driver(drivers, adapter, domain, Driver::Passthrough);
         }
     }
     m
 }
 
-fn moved_by(v: Driver, t: Driver) -> Moved
-    ensures { λ r. ⌜ r ≡ moved v t ⌝ }
+fn moved_by(driver: Driver, target: Driver) -> Moved
+    ensures { λ r. ⌜ r ≡ moved driver target ⌝ }
 {
-    match v {
-        Driver::Unbound => match t {
+    match driver {
+        Driver::Unbound => match target {
             Driver::Unbound => Moved::Idle,
             Driver::Host => Moved::BoundHost,
             Driver::Passthrough => Moved::BoundPassthrough,
         },
-        Driver::Host => match t {
+        Driver::Host => match target {
             Driver::Unbound => Moved::Released,
             Driver::Host => Moved::Idle,
             Driver::Passthrough => Moved::Released,
         },
-        Driver::Passthrough => match t {
+        Driver::Passthrough => match target {
             Driver::Unbound => Moved::Released,
             Driver::Host => Moved::Released,
             Driver::Passthrough => Moved::Idle,
@@ -102,21 +103,21 @@ fn moved_by(v: Driver, t: Driver) -> Moved
     }
 }
 
-fn due_by(v: Driver, t: Driver) -> u32
-    ensures { λ r. ⌜ r ≡ due v t ⌝ }
+fn due_by(driver: Driver, target: Driver) -> u32
+    ensures { λ r. ⌜ r ≡ due driver target ⌝ }
 {
-    match v {
-        Driver::Unbound => match t {
+    match driver {
+        Driver::Unbound => match target {
             Driver::Unbound => 0,
             Driver::Host => 1,
             Driver::Passthrough => 1,
         },
-        Driver::Host => match t {
+        Driver::Host => match target {
             Driver::Unbound => 1,
             Driver::Host => 0,
             Driver::Passthrough => 2,
         },
-        Driver::Passthrough => match t {
+        Driver::Passthrough => match target {
             Driver::Unbound => 1,
             Driver::Host => 2,
             Driver::Passthrough => 0,
@@ -125,64 +126,64 @@ fn due_by(v: Driver, t: Driver) -> u32
 }
 
 // The moves that queue k still needs.
-fn due_at(s: &[u64; WORDS], q: &[u8; 65536], k: usize) -> u32
-    requires { ⌜ k < 65536 ⌝ }
-    ensures { λ r. ⌜ r ≡ dueAt (stateIn (now (s .entry)) (now (q .entry))) k ⌝ }
+fn due_at(words: &Words, drivers: &Drivers, queue: usize) -> u32
+    requires { ⌜ queue < 65536 ⌝ }
+    ensures { λ r. ⌜ r ≡ dueAt (stateIn (now (words .entry)) (now (drivers .entry))) queue ⌝ }
 {
-    let need = need_at(s, q, k);
+    let need = need_at(words, drivers, queue);
     need.due
 }
 
 // What queue k needs. Its target is computed once.
-fn need_at(s: &[u64; WORDS], q: &[u8; 65536], k: usize) -> Need
-    requires { ⌜ k < 65536 ⌝ }
-    ensures due { λ r. ⌜ r .due ≡ dueAt (stateIn (now (s .entry)) (now (q .entry))) k ⌝ }
-    ensures target { λ r. ⌜ r .target ≡ targetOf (hostIn (now (s .entry))) (configIn (now (s .entry))) k ⌝ }
+fn need_at(words: &Words, drivers: &Drivers, queue: usize) -> Need
+    requires { ⌜ queue < 65536 ⌝ }
+    ensures due { λ r. ⌜ r .due ≡ dueAt (stateIn (now (words .entry)) (now (drivers .entry))) queue ⌝ }
+    ensures target { λ r. ⌜ r .target ≡ targetOf (hostIn (now (words .entry))) (configIn (now (words .entry))) queue ⌝ }
 {
-    let a = Apid((k / 256 % 256) as u8);
-    let d = Apqi((k % 256) as u8);
-    let t = target(s, a, d);
-    let n = due_by(record::driver(q, a, d), t);
+    let a = Apid((queue / 256 % 256) as u8);
+    let d = Apqi((queue % 256) as u8);
+    let t = target(words, a, d);
+    let n = due_by(record::driver(drivers, a, d), t);
     Need { due: n, target: t }
 }
 
 // The moves remaining, over all queues.
-pub fn remaining(s: &[u64; WORDS], q: &[u8; 65536]) -> u32
-    ensures { λ r. ⌜ r ≡ remaining (stateIn (now (s .entry)) (now (q .entry))) ⌝ }
+pub fn remaining(words: &Words, drivers: &Drivers) -> u32
+    ensures { λ r. ⌜ r ≡ remaining (stateIn (now (words .entry)) (now (drivers .entry))) ⌝ }
 {
     let mut sum: u32 = 0;
-    let mut k = 0usize;
-    while k < 65536 {
-        sum += due_at(s, q, k);
-        k += 1;
+    let mut queue = 0usize;
+    while queue < 65536 {
+        sum += due_at(words, drivers, queue);
+        queue += 1;
     }
     sum
 }
 
 // Makes as many moves as the budget allows, by ascending queue, and finishes each queue before the next.
-pub fn sweep(s: &[u64; WORDS], q: &mut [u8; 65536], budget: u32) -> Swept
-    ensures used { λ r. ⌜ r .used ≡ movesUsed budget (stateIn (now (s .entry)) (now (q .entry))) ⌝ }
-    ensures more { λ r. ⌜ r .more ≡ not (eqb (remaining (stateIn (now (s .entry)) (now (q .exit)))) 0) ⌝ }
-    ensures drivers { λ r. ⌜ now (q .exit) ≡ sweepBytes (now (s .entry)) queues 0 (min budget mostMoves) (now (q .entry)) ⌝ }
+pub fn sweep(words: &Words, drivers: &mut Drivers, budget: u32) -> Swept
+    ensures used { λ r. ⌜ r .used ≡ movesUsed budget (stateIn (now (words .entry)) (now (drivers .entry))) ⌝ }
+    ensures more { λ r. ⌜ r .more ≡ not (eqb (remaining (stateIn (now (words .entry)) (now (drivers .exit)))) 0) ⌝ }
+    ensures drivers { λ r. ⌜ now (drivers .exit) ≡ sweepBytes (now (words .entry)) queues 0 (min budget mostMoves) (now (drivers .entry)) ⌝ }
 {
-    record::hold_drivers(q);
+    record::hold_drivers(drivers);
     let most = if budget < 131072 { budget } else { 131072 };
     let mut left = most;
-    let mut k: usize = 0;
-    while k < 65536 {
-        let need = need_at(s, q, k);
+    let mut queue: usize = 0;
+    while queue < 65536 {
+        let need = need_at(words, drivers, queue);
         let n = need.due;
         let t = need.target;
         if left < n {
-            settle(s, q, k, left);
+            settle(words, drivers, queue, left);
             return Swept {
                 used: most,
                 more: true,
             };
         }
-        finish(q, k, n, t);
+        finish(drivers, queue, n, t);
         left = left - n;
-        k += 1;
+        queue += 1;
     }
     let made = most - left;
     Swept {
@@ -192,31 +193,31 @@ pub fn sweep(s: &[u64; WORDS], q: &mut [u8; 65536], budget: u32) -> Swept
 }
 
 // Makes n moves of queue k.
-fn settle(s: &[u64; WORDS], q: &mut [u8; 65536], k: usize, n: u32)
-    requires { ⌜ (k < 65536) × (n ≤ 2) ⌝ }
-    ensures { λ r. ⌜ now (q .exit) ≡ movesBytes (now (s .entry)) n k (now (q .entry)) ⌝ }
+fn settle(words: &Words, drivers: &mut Drivers, queue: usize, moves: u32)
+    requires { ⌜ (queue < 65536) × (moves ≤ 2) ⌝ }
+    ensures { λ r. ⌜ now (drivers .exit) ≡ movesBytes (now (words .entry)) moves queue (now (drivers .entry)) ⌝ }
 {
-    let a = Apid((k / 256 % 256) as u8);
-    let d = Apqi((k % 256) as u8);
-    if n == 0 {
+    let a = Apid((queue / 256 % 256) as u8);
+    let d = Apqi((queue % 256) as u8);
+    if moves == 0 {
         return;
     }
-    move_queue(s, q, a, d);
-    if n == 1 {
+    move_queue(words, drivers, a, d);
+    if moves == 1 {
         return;
     }
-    move_queue(s, q, a, d);
+    move_queue(words, drivers, a, d);
 }
 
 // Makes all n moves that queue k is from its target t: the driver after the last is the target.
-fn finish(q: &mut [u8; 65536], k: usize, n: u32, t: Driver)
-    requires { ⌜ k < 65536 ⌝ }
-    ensures { λ r. ⌜ now (q .exit) ≡ cond (eqb n 0) (now (q .entry)) (set (now (q .entry)) k (byteOf t)) ⌝ }
+fn finish(drivers: &mut Drivers, queue: usize, due: u32, target: Driver)
+    requires { ⌜ queue < 65536 ⌝ }
+    ensures { λ r. ⌜ now (drivers .exit) ≡ cond (eqb due 0) (now (drivers .entry)) (set (now (drivers .entry)) queue (byteOf target)) ⌝ }
 {
-    let adapter = Apid((k / 256 % 256) as u8);
-    let domain = Apqi((k % 256) as u8);
-    if n == 0 {
+    let adapter = Apid((queue / 256 % 256) as u8);
+    let domain = Apqi((queue % 256) as u8);
+    if due == 0 {
         return;
     }
-    record::put_driver(q, adapter, domain, t);
+    record::put_driver(drivers, adapter, domain, target);
 }

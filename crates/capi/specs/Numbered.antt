@@ -12,8 +12,6 @@ use Rattle.rules.specs.declared.Answer.{Answer}
 use Rattle.rules.specs.declared.Id.{Id}
 use Rattle.rules.specs.declared.Matrix.{Matrix}
 use Rattle.rules.specs.declared.Matrix.the-variants.{Assigned, Guest}
-use Rattle.rules.specs.declared.Moved.{Moved}
-use Rattle.rules.specs.declared.Moved.the-variants.{Idle, Released, BoundHost, BoundPassthrough}
 use Rattle.rules.specs.Commands.{answered}
 
 -- r is the errno value of an answer that P holds of; 0 is no refusal
@@ -23,13 +21,6 @@ Numbered P r = (a : Answer) × P a × (answered a ≡ r)
 -- an id, as two big-endian numbers
 unfoldable pub idWith : ℕ → ℕ → Id
 idWith hi lo = record { hi = hi; lo = lo }
-
--- a move's answer
-unfoldable pub movedNumber : Moved → ℕ
-movedNumber Idle = 0
-movedNumber Released = 1
-movedNumber BoundHost = 2
-movedNumber BoundPassthrough = 3
 
 -- a flag
 unfoldable pub bit : Bool → ℕ

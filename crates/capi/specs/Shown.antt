@@ -8,9 +8,9 @@ use lib.Dec.{eqb, ltb}
 use Rattle.mask.specs.Bits.{Bits, numbers}
 use Rattle.rules.specs.declared.Id.{Id}
 use Rattle.rules.specs.declared.Matrix.{Matrix}
-use Rattle.rules.specs.State.{Device, places}
+use Rattle.rules.specs.State.{Device, slots}
 use Rattle.rules.specs.Queues.{matrixAdapters, matrixDomains, matrixControls}
-use Rattle.rules.specs.Commands.{answered, placeOf}
+use Rattle.rules.specs.Commands.{answered, slotOf}
 use Rattle.record.specs.Layout.{stateIn, deviceIn}
 use Rattle.listing.specs.declared.Listed.{Listed}
 use Rattle.listing.specs.Listed.{Listing}
@@ -26,8 +26,8 @@ masksOf ws qs w v =
 
 -- ENOENT where no device has the id, and then the buffer is as it was
 pub record MasksShown (ws qs : List ℕ) (i : Id) (w : Matrix) (before after : List ℕ) (r : ℕ) : Type 0 where
-  pub answer : r ≡ cond (ltb (placeOf i (deviceIn ws)) places) 0 2
-  pub masks : after ≡ cond (eqb r 0) (masksOf ws qs w (deviceIn ws (placeOf i (deviceIn ws)))) before
+  pub answer : r ≡ cond (ltb (slotOf i (deviceIn ws)) slots) 0 2
+  pub masks : after ≡ cond (eqb r 0) (masksOf ws qs w (deviceIn ws (slotOf i (deviceIn ws)))) before
 
 -- a listing with its answer as an errno value
 unfoldable pub ListShown : List ℕ → List ℕ → Id → Matrix → ℕ → List ℕ → List ℕ → ℕ → ℕ → ℕ → Type 0

@@ -6,11 +6,11 @@ use errno::Errno;
 use mask::Apid;
 use mask::Apqi;
 use mask::Mask;
-use rules::Answer;
+use record::Drivers;
+use record::Words;
 use rules::Id;
 use rules::Masks;
 use rules::Matrix;
-use rules::Moved;
 ghost use mathlib.Core.Path.{_≡_};
 ghost use mathlib.Core.Bool.{not, true, false};
 ghost use mathlib.Core.List.{_++_};
@@ -20,9 +20,9 @@ ghost use lib.Seq.{paste};
 ghost use lib.Dec.{eqb};
 ghost use Rattle.mask.specs.Bits.{bits};
 ghost use Rattle.rules.specs.State.{queues};
-ghost use Rattle.rules.specs.Queues.{moveAnswer, remaining, movesUsed, mostMoves, usable};
+ghost use Rattle.rules.specs.Queues.{movedNumber, moveAnswer, remaining, movesUsed, mostMoves, usable};
 ghost use Rattle.rules.specs.Commands as Commands;
-ghost use Rattle.rules.specs.Commands.{placeOf, freePlace};
+ghost use Rattle.rules.specs.Commands.{slotOf, freeSlot};
 ghost use Rattle.record.specs.Layout.{stateIn, deviceIn, putDevice, putOpen, noId, apmaskAt, aqmaskAt};
 ghost use Rattle.record.specs.Carried.{Carried, Configured};
 ghost use Rattle.setup.specs.Fresh.{Freshened};
@@ -30,107 +30,107 @@ ghost use Rattle.assign.specs.Numbers.{withNumber, withoutNumber};
 ghost use Rattle.host.specs.Masks.{withMask};
 ghost use Rattle.bind.specs.Moves.{moveBytes, sweepBytes};
 ghost use Rattle.encoding.specs.Encoding.{kindOf, configurationOf};
-ghost use Rattle.capi.specs.Numbered.{Numbered, idWith, movedNumber, bit, matrixOf, namePadded, nameLength};
+ghost use Rattle.capi.specs.Numbered.{Numbered, idWith, bit, matrixOf, namePadded, nameLength};
 ghost use Rattle.capi.specs.Shown.{maskBytes, MasksShown, ListShown};
 
 // Makes the lent memory a fresh record.
 #[no_mangle]
-pub extern "C" fn zk_fresh(s: &mut [u64; 406], q: &mut [u8; 65536], adapter: u64, domain: u64) -> u8
-    ensures { λ r. ⌜ Numbered (Freshened adapter domain (now (s .entry)) (now (s .exit)) (now (q .entry)) (now (q .exit))) r ⌝ }
+pub extern "C" fn zk_fresh(words: &mut Words, drivers: &mut Drivers, adapter: u64, domain: u64) -> u8
+    ensures { λ r. ⌜ Numbered (Freshened adapter domain (now (words .entry)) (now (words .exit)) (now (drivers .entry)) (now (drivers .exit))) r ⌝ }
 {
-    number(setup::fresh(s, q, adapter, domain))
+    rules::answer_number(setup::fresh(words, drivers, adapter, domain))
 }
 
 // The four of a device's life.
 #[no_mangle]
-pub extern "C" fn zk_create(s: &mut [u64; 406], hi: u64, lo: u64) -> u8
-    ensures { λ r. ⌜ Numbered (Carried (Commands.create (idWith hi lo)) (putDevice (now (s .entry)) (freePlace (deviceIn (now (s .entry)))) true (idWith hi lo)) (now (s .entry)) (now (s .exit))) r ⌝ }
+pub extern "C" fn zk_create(words: &mut Words, hi: u64, lo: u64) -> u8
+    ensures { λ r. ⌜ Numbered (Carried (Commands.create (idWith hi lo)) (putDevice (now (words .entry)) (freeSlot (deviceIn (now (words .entry)))) true (idWith hi lo)) (now (words .entry)) (now (words .exit))) r ⌝ }
 {
-    number(devices::create(s, id(hi, lo)))
+    rules::answer_number(devices::create(words, id(hi, lo)))
 }
 
 #[no_mangle]
-pub extern "C" fn zk_remove(s: &mut [u64; 406], hi: u64, lo: u64) -> u8
-    ensures { λ r. ⌜ Numbered (Carried (Commands.remove (idWith hi lo)) (putDevice (now (s .entry)) (placeOf (idWith hi lo) (deviceIn (now (s .entry)))) false noId) (now (s .entry)) (now (s .exit))) r ⌝ }
+pub extern "C" fn zk_remove(words: &mut Words, hi: u64, lo: u64) -> u8
+    ensures { λ r. ⌜ Numbered (Carried (Commands.remove (idWith hi lo)) (putDevice (now (words .entry)) (slotOf (idWith hi lo) (deviceIn (now (words .entry)))) false noId) (now (words .entry)) (now (words .exit))) r ⌝ }
 {
-    number(devices::remove(s, id(hi, lo)))
+    rules::answer_number(devices::remove(words, id(hi, lo)))
 }
 
 #[no_mangle]
-pub extern "C" fn zk_open(s: &mut [u64; 406], hi: u64, lo: u64) -> u8
-    ensures { λ r. ⌜ Numbered (Carried (Commands.openDevice (idWith hi lo)) (putOpen (now (s .entry)) (placeOf (idWith hi lo) (deviceIn (now (s .entry)))) true) (now (s .entry)) (now (s .exit))) r ⌝ }
+pub extern "C" fn zk_open(words: &mut Words, hi: u64, lo: u64) -> u8
+    ensures { λ r. ⌜ Numbered (Carried (Commands.openDevice (idWith hi lo)) (putOpen (now (words .entry)) (slotOf (idWith hi lo) (deviceIn (now (words .entry)))) true) (now (words .entry)) (now (words .exit))) r ⌝ }
 {
-    number(devices::open(s, id(hi, lo)))
+    rules::answer_number(devices::open(words, id(hi, lo)))
 }
 
 #[no_mangle]
-pub extern "C" fn zk_close(s: &mut [u64; 406], hi: u64, lo: u64) -> u8
-    ensures { λ r. ⌜ Numbered (Carried (Commands.closeDevice (idWith hi lo)) (putOpen (now (s .entry)) (placeOf (idWith hi lo) (deviceIn (now (s .entry)))) false) (now (s .entry)) (now (s .exit))) r ⌝ }
+pub extern "C" fn zk_close(words: &mut Words, hi: u64, lo: u64) -> u8
+    ensures { λ r. ⌜ Numbered (Carried (Commands.closeDevice (idWith hi lo)) (putOpen (now (words .entry)) (slotOf (idWith hi lo) (deviceIn (now (words .entry)))) false) (now (words .entry)) (now (words .exit))) r ⌝ }
 {
-    number(devices::close(s, id(hi, lo)))
+    rules::answer_number(devices::close(words, id(hi, lo)))
 }
 
 // Kind 0 is an adapter, 1 a domain, any other a control domain; the number is text.
 #[no_mangle]
-pub extern "C" fn zk_assign(s: &mut [u64; 406], hi: u64, lo: u64, kind: u8, text: &[u8]) -> u8
-    ensures { λ r. ⌜ Numbered (Carried (Commands.assign (kindOf kind) (idWith hi lo) (now (text .entry))) (withNumber (now (s .entry)) (kindOf kind) (idWith hi lo) (now (text .entry))) (now (s .entry)) (now (s .exit))) r ⌝ }
+pub extern "C" fn zk_assign(words: &mut Words, hi: u64, lo: u64, kind: u8, text: &[u8]) -> u8
+    ensures { λ r. ⌜ Numbered (Carried (Commands.assign (kindOf kind) (idWith hi lo) (now (text .entry))) (withNumber (now (words .entry)) (kindOf kind) (idWith hi lo) (now (text .entry))) (now (words .entry)) (now (words .exit))) r ⌝ }
 {
-    number(assign::assign(s, encoding::kind_of(kind), id(hi, lo), text))
+    rules::answer_number(assign::assign(words, encoding::kind_of(kind), id(hi, lo), text))
 }
 
 #[no_mangle]
-pub extern "C" fn zk_unassign(s: &mut [u64; 406], hi: u64, lo: u64, kind: u8, text: &[u8]) -> u8
-    ensures { λ r. ⌜ Numbered (Carried (Commands.unassign (kindOf kind) (idWith hi lo) (now (text .entry))) (withoutNumber (now (s .entry)) (kindOf kind) (idWith hi lo) (now (text .entry))) (now (s .entry)) (now (s .exit))) r ⌝ }
+pub extern "C" fn zk_unassign(words: &mut Words, hi: u64, lo: u64, kind: u8, text: &[u8]) -> u8
+    ensures { λ r. ⌜ Numbered (Carried (Commands.unassign (kindOf kind) (idWith hi lo) (now (text .entry))) (withoutNumber (now (words .entry)) (kindOf kind) (idWith hi lo) (now (text .entry))) (now (words .entry)) (now (words .exit))) r ⌝ }
 {
-    number(assign::unassign(s, encoding::kind_of(kind), id(hi, lo), text))
+    rules::answer_number(assign::unassign(words, encoding::kind_of(kind), id(hi, lo), text))
 }
 
 #[no_mangle]
-pub extern "C" fn zk_set_apmask(s: &mut [u64; 406], text: &[u8]) -> u8
-    ensures { λ r. ⌜ Numbered (Carried (Commands.setApmask (now (text .entry))) (withMask (now (s .entry)) apmaskAt (now (text .entry))) (now (s .entry)) (now (s .exit))) r ⌝ }
+pub extern "C" fn zk_set_apmask(words: &mut Words, text: &[u8]) -> u8
+    ensures { λ r. ⌜ Numbered (Carried (Commands.setApmask (now (text .entry))) (withMask (now (words .entry)) apmaskAt (now (text .entry))) (now (words .entry)) (now (words .exit))) r ⌝ }
 {
-    number(host::set_apmask(s, text))
+    rules::answer_number(host::set_apmask(words, text))
 }
 
 #[no_mangle]
-pub extern "C" fn zk_set_aqmask(s: &mut [u64; 406], text: &[u8]) -> u8
-    ensures { λ r. ⌜ Numbered (Carried (Commands.setAqmask (now (text .entry))) (withMask (now (s .entry)) aqmaskAt (now (text .entry))) (now (s .entry)) (now (s .exit))) r ⌝ }
+pub extern "C" fn zk_set_aqmask(words: &mut Words, text: &[u8]) -> u8
+    ensures { λ r. ⌜ Numbered (Carried (Commands.setAqmask (now (text .entry))) (withMask (now (words .entry)) aqmaskAt (now (text .entry))) (now (words .entry)) (now (words .exit))) r ⌝ }
 {
-    number(host::set_aqmask(s, text))
+    rules::answer_number(host::set_aqmask(words, text))
 }
 
 // Three masks of 32 bytes in mask order, then 256 hardware types.
 #[no_mangle]
-pub extern "C" fn zk_configure(s: &mut [u64; 406], q: &mut [u8; 65536], c: &[u8; 352]) -> u8
-    ensures { λ r. ⌜ Numbered (Configured (configurationOf (now (c .entry))) (now (s .entry)) (now (s .exit)) (now (q .entry)) (now (q .exit))) r ⌝ }
+pub extern "C" fn zk_configure(words: &mut Words, drivers: &mut Drivers, configuration: &[u8; 352]) -> u8
+    ensures { λ r. ⌜ Numbered (Configured (configurationOf (now (configuration .entry))) (now (words .entry)) (now (words .exit)) (now (drivers .entry)) (now (drivers .exit))) r ⌝ }
 {
-    number(host::configure(s, q, encoding::configuration_of(c)))
+    rules::answer_number(host::configure(words, drivers, encoding::configuration_of(configuration)))
 }
 
 // 0 idle, 1 released, 2 bound to host, 3 bound to passthrough.
 #[no_mangle]
-pub extern "C" fn zk_move(s: &[u64; 406], q: &mut [u8; 65536], apid: u8, apqi: u8) -> u8
-    ensures answer { λ r. ⌜ r ≡ movedNumber (moveAnswer (apid * 256 + apqi) (stateIn (now (s .entry)) (now (q .entry)))) ⌝ }
-    ensures drivers { λ r. ⌜ now (q .exit) ≡ moveBytes (now (s .entry)) (apid * 256 + apqi) (now (q .entry)) ⌝ }
+pub extern "C" fn zk_move(words: &Words, drivers: &mut Drivers, apid: u8, apqi: u8) -> u8
+    ensures answer { λ r. ⌜ r ≡ movedNumber (moveAnswer (apid * 256 + apqi) (stateIn (now (words .entry)) (now (drivers .entry)))) ⌝ }
+    ensures drivers { λ r. ⌜ now (drivers .exit) ≡ moveBytes (now (words .entry)) (apid * 256 + apqi) (now (drivers .entry)) ⌝ }
 {
-    moved(bind::move_queue(s, q, Apid(apid), Apqi(apqi)))
+    rules::moved_number(bind::move_queue(words, drivers, Apid(apid), Apqi(apqi)))
 }
 
 #[no_mangle]
-pub extern "C" fn zk_remaining(s: &[u64; 406], q: &[u8; 65536]) -> u32
-    ensures { λ r. ⌜ r ≡ remaining (stateIn (now (s .entry)) (now (q .entry))) ⌝ }
+pub extern "C" fn zk_remaining(words: &Words, drivers: &Drivers) -> u32
+    ensures { λ r. ⌜ r ≡ remaining (stateIn (now (words .entry)) (now (drivers .entry))) ⌝ }
 {
-    bind::remaining(s, q)
+    bind::remaining(words, drivers)
 }
 
 // The moves used; more is then 1 where any remain, and 0 where none does.
 #[no_mangle]
-pub extern "C" fn zk_sweep(s: &[u64; 406], q: &mut [u8; 65536], budget: u32, more: &mut u8) -> u32
-    ensures used { λ r. ⌜ r ≡ movesUsed budget (stateIn (now (s .entry)) (now (q .entry))) ⌝ }
-    ensures more { λ r. ⌜ now (more .exit) ≡ bit (not (eqb (remaining (stateIn (now (s .entry)) (now (q .exit)))) 0)) ⌝ }
-    ensures drivers { λ r. ⌜ now (q .exit) ≡ sweepBytes (now (s .entry)) queues 0 (min budget mostMoves) (now (q .entry)) ⌝ }
+pub extern "C" fn zk_sweep(words: &Words, drivers: &mut Drivers, budget: u32, more: &mut u8) -> u32
+    ensures used { λ r. ⌜ r ≡ movesUsed budget (stateIn (now (words .entry)) (now (drivers .entry))) ⌝ }
+    ensures more { λ r. ⌜ now (more .exit) ≡ bit (not (eqb (remaining (stateIn (now (words .entry)) (now (drivers .exit)))) 0)) ⌝ }
+    ensures drivers { λ r. ⌜ now (drivers .exit) ≡ sweepBytes (now (words .entry)) queues 0 (min budget mostMoves) (now (drivers .entry)) ⌝ }
 {
-    let r = bind::sweep(s, q, budget);
+    let r = bind::sweep(words, drivers, budget);
     *more = flag(r.more);
     r.used
 }
@@ -138,33 +138,33 @@ pub extern "C" fn zk_sweep(s: &[u64; 406], q: &mut [u8; 65536], budget: u32, mor
 // 1 where the guest of the device can use the queue now, else 0.
 #[no_mangle]
 pub extern "C" fn zk_usable(
-    s: &[u64; 406],
-    q: &[u8; 65536],
+    words: &Words,
+    drivers: &Drivers,
     hi: u64,
     lo: u64,
     apid: u8,
     apqi: u8,
 ) -> u8
-    ensures { λ r. ⌜ r ≡ bit (usable (stateIn (now (s .entry)) (now (q .entry))) (deviceIn (now (s .entry)) (placeOf (idWith hi lo) (deviceIn (now (s .entry))))) (apid * 256 + apqi)) ⌝ }
+    ensures { λ r. ⌜ r ≡ bit (usable (stateIn (now (words .entry)) (now (drivers .entry))) (deviceIn (now (words .entry)) (slotOf (idWith hi lo) (deviceIn (now (words .entry))))) (apid * 256 + apqi)) ⌝ }
 {
-    flag(guest::usable(s, q, id(hi, lo), Apid(apid), Apqi(apqi)))
+    flag(guest::usable(words, drivers, id(hi, lo), Apid(apid), Apqi(apqi)))
 }
 
 // Matrix 0 is what is assigned, any other what the guest gets: adapters, domains and control domains, 32 bytes each.
 #[no_mangle]
 pub extern "C" fn zk_masks(
-    s: &[u64; 406],
-    q: &[u8; 65536],
+    words: &Words,
+    drivers: &Drivers,
     hi: u64,
     lo: u64,
     matrix: u8,
     out: &mut [u8; 96],
 ) -> u8
-    ensures { λ r. ⌜ MasksShown (now (s .entry)) (now (q .entry)) (idWith hi lo) (matrixOf matrix) (now (out .entry)) (now (out .exit)) r ⌝ }
+    ensures { λ r. ⌜ MasksShown (now (words .entry)) (now (drivers .entry)) (idWith hi lo) (matrixOf matrix) (now (out .entry)) (now (out .exit)) r ⌝ }
 {
-    let shown = guest::masks(s, q, id(hi, lo), matrix_of(matrix));
+    let shown = guest::masks(words, drivers, id(hi, lo), matrix_of(matrix));
     let answer = shown.answer;
-    let e = number(answer);
+    let e = rules::answer_number(answer);
     if e == 0 {
         let m = shown.masks;
         put_masks(m, out);
@@ -175,8 +175,8 @@ pub extern "C" fn zk_masks(
 // Writes lines from a place on; the bytes written and the next place are left behind the last two references.
 #[no_mangle]
 pub extern "C" fn zk_list(
-    s: &[u64; 406],
-    q: &[u8; 65536],
+    words: &Words,
+    drivers: &Drivers,
     hi: u64,
     lo: u64,
     matrix: u8,
@@ -185,13 +185,13 @@ pub extern "C" fn zk_list(
     written: &mut usize,
     next: &mut usize,
 ) -> u8
-    ensures { λ r. ⌜ ListShown (now (s .entry)) (now (q .entry)) (idWith hi lo) (matrixOf matrix) place (now (buf .entry)) (now (buf .exit)) (now (written .exit)) (now (next .exit)) r ⌝ }
+    ensures { λ r. ⌜ ListShown (now (words .entry)) (now (drivers .entry)) (idWith hi lo) (matrixOf matrix) place (now (buf .entry)) (now (buf .exit)) (now (written .exit)) (now (next .exit)) r ⌝ }
 {
-    let r = listing::list(s, q, id(hi, lo), matrix_of(matrix), place, buf);
+    let r = listing::list(words, drivers, id(hi, lo), matrix_of(matrix), place, buf);
     *written = r.written;
     *next = r.next;
     let answer = r.answer;
-    number(answer)
+    rules::answer_number(answer)
 }
 
 // The name of an errno value, padded with zeros, and its length; of any other number nothing, and 0.
@@ -212,27 +212,6 @@ fn id(hi: u64, lo: u64) -> Id
     Id { hi: hi, lo: lo }
 }
 
-// An answer as its errno value, 0 where there is no refusal.
-fn number(a: Answer) -> u8
-    ensures { λ r. ⌜ r ≡ Commands.answered a ⌝ }
-{
-    match a {
-        Answer::Done => 0,
-        Answer::Refused(e) => errno::number(e),
-    }
-}
-
-fn moved(m: Moved) -> u8
-    ensures { λ r. ⌜ r ≡ movedNumber m ⌝ }
-{
-    match m {
-        Moved::Idle => 0,
-        Moved::Released => 1,
-        Moved::BoundHost => 2,
-        Moved::BoundPassthrough => 3,
-    }
-}
-
 fn flag(b: bool) -> u8
     ensures { λ r. ⌜ r ≡ bit b ⌝ }
 {
@@ -250,23 +229,23 @@ fn matrix_of(n: u8) -> Matrix
 }
 
 // Three masks, one after the other.
-fn put_masks(m: Masks, out: &mut [u8; 96])
-    ensures { λ r. ⌜ now (out .exit) ≡ maskBytes (bits (m .adapters)) ++ (maskBytes (bits (m .domains)) ++ maskBytes (bits (m .controls))) ⌝ }
+fn put_masks(masks: Masks, out: &mut [u8; 96])
+    ensures { λ r. ⌜ now (out .exit) ≡ maskBytes (bits (masks .adapters)) ++ (maskBytes (bits (masks .domains)) ++ maskBytes (bits (masks .controls))) ⌝ }
 {
-    let adapters = m.adapters;
-    let domains = m.domains;
-    let controls = m.controls;
+    let adapters = masks.adapters;
+    let domains = masks.domains;
+    let controls = masks.controls;
     put_mask(adapters, out, 0);
     put_mask(domains, out, 32);
     put_mask(controls, out, 64);
 }
 
 // The bytes of a mask, from an index on.
-fn put_mask(m: Mask, out: &mut [u8], at: usize)
+fn put_mask(mask: Mask, out: &mut [u8], at: usize)
     requires { ⌜ at + 32 ≤ length (now out) ⌝ }
-    ensures { λ r. ⌜ now (out .exit) ≡ paste (now (out .entry)) at (maskBytes (bits m)) 32 ⌝ }
+    ensures { λ r. ⌜ now (out .exit) ≡ paste (now (out .entry)) at (maskBytes (bits mask)) 32 ⌝ }
 {
-    let b = maskbytes::to_bytes(m);
+    let b = maskbytes::to_bytes(mask);
     let mut i = 0usize;
     while i < 32 {
         out[at + i] = b[i];

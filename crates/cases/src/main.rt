@@ -21,7 +21,7 @@ fn main() {
     let mut s = [0u64; WORDS];
     let mut q = [0u8; 65536];
     limits(&mut s, &mut q);
-    places(&mut s);
+    slots(&mut s);
     life(&mut s);
     texts(&mut s);
     reserved(&mut s);
@@ -41,7 +41,7 @@ fn limits(s: &mut [u64; WORDS], q: &mut [u8; 65536]) {
 }
 
 // Eight devices, a ninth, and the place of one that was removed (setting 14).
-fn places(s: &mut [u64; WORDS]) {
+fn slots(s: &mut [u64; WORDS]) {
     made(s, 1);
     made(s, 2);
     made(s, 3);

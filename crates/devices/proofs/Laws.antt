@@ -6,36 +6,37 @@ use mathlib.Core.List.{List}
 use mathlib.Core.Path.{_≡_, sym, ap, ap₂, _∙_}
 use lib.Dec.{ltb}
 use Rattle.errno.specs.Outcome.{Outcome, granted, refused}
+use Rattle.errno.specs.declared.Errno.the-variants.{Eexist, Enospc}
 use Rattle.rules.specs.declared.Id.{Id}
-use Rattle.rules.specs.State.{State, places}
-use Rattle.rules.specs.Commands.{placeOf, freePlace, onDevice, withDevice, newDevice, create}
+use Rattle.rules.specs.State.{State, slots}
+use Rattle.rules.specs.Commands.{slotOf, freeSlot, onDevice, withDevice, newDevice, create}
 use Rattle.record.specs.Layout.{deviceIn, stateIn}
 use Rattle.record.proofs.Laws.{cond-below, cond-past}
 use Rattle.lookup.proofs.Found.{known}
 
--- the device is at place p, and t says whether it is open
-pub by-open : (i : Id) (ws qs : List ℕ) (p : ℕ) → p ≡ placeOf i (deviceIn ws) → p < places → (t : Bool) → t ≡ deviceIn ws p .isOpen
+-- the device is at slot p, and t says whether it is open
+pub by-open : (i : Id) (ws qs : List ℕ) (p : ℕ) → p ≡ slotOf i (deviceIn ws) → p < slots → (t : Bool) → t ≡ deviceIn ws p .isOpen
     → (a b : ℕ → Outcome State) → onDevice i (stateIn ws qs) (λ j. cond (stateIn ws qs .device j .isOpen) (a j) (b j)) ≡ cond t (a p) (b p)
 unfolding stateIn
 by-open i ws qs p at h t e a b =
     known i ws qs p at (λ j. cond (deviceIn ws j .isOpen) (a j) (b j)) h ∙ ap (λ (x : Bool). cond x (a p) (b p)) (sym e)
 
--- a new device's rule, by the places of its id and of the first empty one
-module _ (i : Id) (ws qs : List ℕ) (p f : ℕ) (at : p ≡ placeOf i (deviceIn ws)) (empty : f ≡ freePlace (deviceIn ws)) where
+-- a new device's rule, by the slots of its id and of the first empty one
+module _ (i : Id) (ws qs : List ℕ) (p f : ℕ) (at : p ≡ slotOf i (deviceIn ws)) (empty : f ≡ freeSlot (deviceIn ws)) where
   made : ℕ → Outcome State
-  made k = cond (ltb k places) (granted (withDevice k (newDevice i) (stateIn ws qs))) (refused 28)
+  made k = cond (ltb k slots) (granted (withDevice k (newDevice i) (stateIn ws qs))) (refused Enospc)
 
-  by-places : create i (stateIn ws qs) ≡ cond (ltb p places) (refused 17) (made f)
+  by-slots : create i (stateIn ws qs) ≡ cond (ltb p slots) (refused Eexist) (made f)
   unfolding create stateIn made
-  by-places = sym (ap₂ (λ (x y : ℕ). cond (ltb x places) (refused 17) (made y)) at empty)
+  by-slots = sym (ap₂ (λ (x y : ℕ). cond (ltb x slots) (refused Eexist) (made y)) at empty)
 
-  pub create-known : p < places → create i (stateIn ws qs) ≡ refused 17
-  create-known h = by-places ∙ cond-below p places (refused 17) (made f) h
+  pub create-known : p < slots → create i (stateIn ws qs) ≡ refused Eexist
+  create-known h = by-slots ∙ cond-below p slots (refused Eexist) (made f) h
 
-  pub create-full : places ≤ p → places ≤ f → create i (stateIn ws qs) ≡ refused 28
+  pub create-full : slots ≤ p → slots ≤ f → create i (stateIn ws qs) ≡ refused Enospc
   unfolding made
-  create-full h l = by-places ∙ cond-past p places (refused 17) (made f) h ∙ cond-past f places _ (refused 28) l
+  create-full h l = by-slots ∙ cond-past p slots (refused Eexist) (made f) h ∙ cond-past f slots _ (refused Enospc) l
 
-  pub create-new : places ≤ p → f < places → create i (stateIn ws qs) ≡ granted (withDevice f (newDevice i) (stateIn ws qs))
+  pub create-new : slots ≤ p → f < slots → create i (stateIn ws qs) ≡ granted (withDevice f (newDevice i) (stateIn ws qs))
   unfolding made
-  create-new h l = by-places ∙ cond-past p places (refused 17) (made f) h ∙ cond-below f places _ (refused 28) l
+  create-new h l = by-slots ∙ cond-past p slots (refused Eexist) (made f) h ∙ cond-below f slots _ (refused Enospc) l

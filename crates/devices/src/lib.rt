@@ -2,71 +2,71 @@
 //
 // Rests on errno, rules, record and lookup.
 use errno::Errno;
-use record::PLACES;
-use record::WORDS;
+use record::SLOTS;
+use record::Words;
 use rules::Answer;
 use rules::Id;
 ghost use mathlib.Core.Bool.{true, false};
-ghost use Rattle.rules.specs.Commands.{create, remove, openDevice, closeDevice, placeOf, freePlace};
+ghost use Rattle.rules.specs.Commands.{create, remove, openDevice, closeDevice, slotOf, freeSlot};
 ghost use Rattle.record.specs.Layout.{deviceIn, putDevice, putOpen, noId};
 ghost use Rattle.record.specs.Carried.{Carried};
 
-pub fn create(s: &mut [u64; WORDS], i: Id) -> Answer
-    ensures { λ r. ⌜ Carried (create i) (putDevice (now (s .entry)) (freePlace (deviceIn (now (s .entry)))) true i) (now (s .entry)) (now (s .exit)) r ⌝ }
+pub fn create(words: &mut Words, id: Id) -> Answer
+    ensures { λ r. ⌜ Carried (create id) (putDevice (now (words .entry)) (freeSlot (deviceIn (now (words .entry)))) true id) (now (words .entry)) (now (words .exit)) r ⌝ }
 {
-    if lookup::find(s, i) < PLACES {
+    if lookup::find(words, id) < SLOTS {
         return Answer::Refused(Errno::Eexist);
     }
-    let p = lookup::free(s);
-    if PLACES <= p {
+    let slot = lookup::free(words);
+    if SLOTS <= slot {
         return Answer::Refused(Errno::Enospc);
     }
-    record::hold_words(s);
-    record::put_device(s, p, true, i);
+    record::hold_words(words);
+    record::put_device(words, slot, true, id);
     Answer::Done
 }
 
-pub fn remove(s: &mut [u64; WORDS], i: Id) -> Answer
-    ensures { λ r. ⌜ Carried (remove i) (putDevice (now (s .entry)) (placeOf i (deviceIn (now (s .entry)))) false noId) (now (s .entry)) (now (s .exit)) r ⌝ }
+pub fn remove(words: &mut Words, id: Id) -> Answer
+    ensures { λ r. ⌜ Carried (remove id) (putDevice (now (words .entry)) (slotOf id (deviceIn (now (words .entry)))) false noId) (now (words .entry)) (now (words .exit)) r ⌝ }
 {
-    let at = lookup::find(s, i);
-    if PLACES <= at {
+    let slot = lookup::find(words, id);
+    if SLOTS <= slot {
         return Answer::Refused(Errno::Enoent);
     }
-    if record::is_open(s, at) {
+    if record::is_open(words, slot) {
         return Answer::Refused(Errno::Ebusy);
     }
-    record::hold_words(s);
-    record::put_device(s, at, false, Id { hi: 0, lo: 0 });
+    record::hold_words(words);
+    record::put_device(words, slot, false, Id { hi: 0, lo: 0 });
     Answer::Done
 }
 
-pub fn open(s: &mut [u64; WORDS], i: Id) -> Answer
-    ensures { λ r. ⌜ Carried (openDevice i) (putOpen (now (s .entry)) (placeOf i (deviceIn (now (s .entry)))) true) (now (s .entry)) (now (s .exit)) r ⌝ }
+pub fn open(words: &mut Words, id: Id) -> Answer
+    ensures { λ r. ⌜ Carried (openDevice id) (putOpen (now (words .entry)) (slotOf id (deviceIn (now (words .entry)))) true) (now (words .entry)) (now (words .exit)) r ⌝ }
 {
-    let p = lookup::find(s, i);
-    if PLACES <= p {
+    let slot = lookup::find(words, id);
+    if SLOTS <= slot {
         return Answer::Refused(Errno::Enoent);
     }
-    if record::is_open(s, p) {
+    if record::is_open(words, slot) {
         return Answer::Refused(Errno::Ebusy);
     }
-    record::hold_words(s);
-    record::put_open(s, p, true);
+    record::hold_words(words);
+    record::put_open(words, slot, true);
     Answer::Done
 }
 
-pub fn close(s: &mut [u64; WORDS], i: Id) -> Answer
-    ensures { λ r. ⌜ Carried (closeDevice i) (putOpen (now (s .entry)) (placeOf i (deviceIn (now (s .entry)))) false) (now (s .entry)) (now (s .exit)) r ⌝ }
+pub fn close(words: &mut Words, id: Id) -> Answer
+    ensures { λ r. ⌜ Carried (closeDevice id) (putOpen (now (words .entry)) (slotOf id (deviceIn (now (words .entry)))) false) (now (words .entry)) (now (words .exit)) r ⌝ }
 {
-    let p = lookup::find(s, i);
-    if PLACES <= p {
+    let slot = lookup::find(words, id);
+    if SLOTS <= slot {
         return Answer::Refused(Errno::Enoent);
     }
-    if !record::is_open(s, p) {
+    if !record::is_open(words, slot) {
         return Answer::Refused(Errno::Einval);
     }
-    record::hold_words(s);
-    record::put_open(s, p, false);
+    record::hold_words(words);
+    record::put_open(words, slot, false);
     Answer::Done
 }

@@ -39,8 +39,8 @@ bit-from : (b xs : List ℕ) (k i : ℕ) → ((j : ℕ) → j < 32 → getD xs j
 unfolding bitAt
 bit-from b xs k i h l =
     let byte : k + i / 8 ≡ (k * 8 + i) / 8 = omega arith in
-    let place : i % 8 ≡ (k * 8 + i) % 8 = omega arith in
-    ap₂ (λ (x p : ℕ). digit x (7 - p)) (h (i / 8) (omega arith) ∙ ap (λ (q : ℕ). getD b q 0) byte) place
+    let slot : i % 8 ≡ (k * 8 + i) % 8 = omega arith in
+    ap₂ (λ (x p : ℕ). digit x (7 - p)) (h (i / 8) (omega arith) ∙ ap (λ (q : ℕ). getD b q 0) byte) slot
 
 -- a mask whose 32 bytes are those from an index on is the mask there
 pub same-mask : (b xs : List ℕ) (k : ℕ) (m : Mask) → Words 64 4 (m .words) → bits m ≡ bitAt 8 xs

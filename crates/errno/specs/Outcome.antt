@@ -1,8 +1,8 @@
--- What a call comes to, in 01's own numbers. Each answer that is an enum has a definition that gives its outcome.
+-- What a call comes to. Each answer that is an enum has a definition that gives its outcome.
 -- Assumes nothing.
-use Prim.Native.Nat.{ℕ}
+use Rattle.errno.specs.declared.Errno.{Errno}
 
--- a value, or a refusal with its errno value
+-- a value, or a refusal
 pub data Outcome (A : Type 0) : Type 0 where
   granted : A → Outcome A
-  refused : ℕ → Outcome A
+  refused : Errno → Outcome A

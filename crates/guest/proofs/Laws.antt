@@ -82,7 +82,7 @@ pub guest-adapters : (ws qs : List ℕ) (v : Device) {adapters domains : Bits} �
 unfolding both guestAdapters stateIn heldBack missing
 guest-adapters ws qs v p q = ap₂ (λ (f g : Bits). λ (j : ℕ). f j && not (heldBack qs g j)) p q
 
--- the three tests of whether a guest can use a queue of the device at place p, which is place n
+-- the three tests of whether a guest can use a queue of the device at slot p, which is slot n
 pub usable-by : (s : State) (v : Devices) {p n : ℕ} (a d : ℕ) (x y z : Bool) → p ≡ n → d < 256 → v p .isOpen ≡ x → guestAdapters s (v p) a ≡ y
     → guestDomains s (v p) d ≡ z → (x && (y && z)) ≡ usable s (v n) (a * 256 + d)
 unfolding usable inProduct

@@ -5,8 +5,9 @@ use errno::Errno;
 use mask::Apid;
 use mask::Apqi;
 use mask::Mask;
-use record::PLACES;
-use record::WORDS;
+use record::Drivers;
+use record::SLOTS;
+use record::Words;
 use rules::Answer;
 use rules::Id;
 use rules::Kind;
@@ -17,9 +18,9 @@ ghost use mathlib.Core.Bool.{cond, not, _&&_};
 ghost use lib.Dec.{eqb, ltb};
 ghost use Prim.Native.Nat.{_+_, _*_, _<_};
 ghost use Rattle.mask.specs.Bits.{bits};
-ghost use Rattle.rules.specs.State.{places};
+ghost use Rattle.rules.specs.State.{slots};
 ghost use Rattle.rules.specs.Queues.{matrixAdapters, matrixDomains, matrixControls, usable};
-ghost use Rattle.rules.specs.Commands.{answered, placeOf};
+ghost use Rattle.rules.specs.Commands.{answered, slotOf};
 ghost use Rattle.record.specs.Layout.{stateIn, deviceIn};
 ghost use Rattle.guest.specs.Row.{heldBack};
 
@@ -30,113 +31,113 @@ pub struct Shown {
 }
 
 // A matrix of the device with an id.
-pub fn masks(s: &[u64; WORDS], q: &[u8; 65536], i: Id, w: Matrix) -> Shown
-    ensures answer { λ r. ⌜ answered (r .answer) ≡ cond (ltb (placeOf i (deviceIn (now (s .entry)))) places) 0 2 ⌝ }
-    ensures adapters { λ r. ⌜ bits (r .masks .adapters) ≡ matrixAdapters w (stateIn (now (s .entry)) (now (q .entry))) (deviceIn (now (s .entry)) (placeOf i (deviceIn (now (s .entry))))) ⌝ }
-    ensures domains { λ r. ⌜ bits (r .masks .domains) ≡ matrixDomains w (stateIn (now (s .entry)) (now (q .entry))) (deviceIn (now (s .entry)) (placeOf i (deviceIn (now (s .entry))))) ⌝ }
-    ensures controls { λ r. ⌜ bits (r .masks .controls) ≡ matrixControls w (stateIn (now (s .entry)) (now (q .entry))) (deviceIn (now (s .entry)) (placeOf i (deviceIn (now (s .entry))))) ⌝ }
+pub fn masks(words: &Words, drivers: &Drivers, id: Id, matrix: Matrix) -> Shown
+    ensures answer { λ r. ⌜ answered (r .answer) ≡ cond (ltb (slotOf id (deviceIn (now (words .entry)))) slots) 0 2 ⌝ }
+    ensures adapters { λ r. ⌜ bits (r .masks .adapters) ≡ matrixAdapters matrix (stateIn (now (words .entry)) (now (drivers .entry))) (deviceIn (now (words .entry)) (slotOf id (deviceIn (now (words .entry))))) ⌝ }
+    ensures domains { λ r. ⌜ bits (r .masks .domains) ≡ matrixDomains matrix (stateIn (now (words .entry)) (now (drivers .entry))) (deviceIn (now (words .entry)) (slotOf id (deviceIn (now (words .entry))))) ⌝ }
+    ensures controls { λ r. ⌜ bits (r .masks .controls) ≡ matrixControls matrix (stateIn (now (words .entry)) (now (drivers .entry))) (deviceIn (now (words .entry)) (slotOf id (deviceIn (now (words .entry))))) ⌝ }
 {
-    let p = lookup::find(s, i);
-    let m = masks_at(s, q, p, w);
+    let slot = lookup::find(words, id);
+    let m = masks_at(words, drivers, slot, matrix);
     Shown {
-        answer: found(p),
+        answer: found(slot),
         masks: m,
     }
 }
 
-// The answer for the place of an id: a refusal past the last place.
-fn found(p: usize) -> Answer
-    ensures { λ r. ⌜ answered r ≡ cond (ltb p places) 0 2 ⌝ }
+// The answer for the slot of an id: a refusal past the last slot.
+fn found(slot: usize) -> Answer
+    ensures { λ r. ⌜ answered r ≡ cond (ltb slot slots) 0 2 ⌝ }
 {
-    if p < PLACES {
+    if slot < SLOTS {
         return Answer::Done;
     }
     Answer::Refused(Errno::Enoent)
 }
 
-// A matrix of the device at place p: nothing past the last place.
-pub fn masks_at(s: &[u64; WORDS], q: &[u8; 65536], p: usize, w: Matrix) -> Masks
-    ensures adapters { λ r. ⌜ bits (r .adapters) ≡ matrixAdapters w (stateIn (now (s .entry)) (now (q .entry))) (deviceIn (now (s .entry)) p) ⌝ }
-    ensures domains { λ r. ⌜ bits (r .domains) ≡ matrixDomains w (stateIn (now (s .entry)) (now (q .entry))) (deviceIn (now (s .entry)) p) ⌝ }
-    ensures controls { λ r. ⌜ bits (r .controls) ≡ matrixControls w (stateIn (now (s .entry)) (now (q .entry))) (deviceIn (now (s .entry)) p) ⌝ }
+// A matrix of the device at slot p: nothing past the last slot.
+pub fn masks_at(words: &Words, drivers: &Drivers, slot: usize, matrix: Matrix) -> Masks
+    ensures adapters { λ r. ⌜ bits (r .adapters) ≡ matrixAdapters matrix (stateIn (now (words .entry)) (now (drivers .entry))) (deviceIn (now (words .entry)) slot) ⌝ }
+    ensures domains { λ r. ⌜ bits (r .domains) ≡ matrixDomains matrix (stateIn (now (words .entry)) (now (drivers .entry))) (deviceIn (now (words .entry)) slot) ⌝ }
+    ensures controls { λ r. ⌜ bits (r .controls) ≡ matrixControls matrix (stateIn (now (words .entry)) (now (drivers .entry))) (deviceIn (now (words .entry)) slot) ⌝ }
 {
-    let adapters = record::numbers(s, p, Kind::Adapter);
-    let domains = record::numbers(s, p, Kind::Domain);
-    let controls = record::numbers(s, p, Kind::Control);
-    match w {
+    let adapters = record::numbers(words, slot, Kind::Adapter);
+    let domains = record::numbers(words, slot, Kind::Domain);
+    let controls = record::numbers(words, slot, Kind::Control);
+    match matrix {
         Matrix::Assigned => Masks {
             adapters: adapters,
             domains: domains,
             controls: controls,
         },
         Matrix::Guest => {
-            let kept = domains.and(record::configured_domains(s));
+            let kept = domains.and(record::configured_domains(words));
             Masks {
-                adapters: passed_adapters(q, adapters.and(record::configured_adapters(s)), kept),
+                adapters: passed_adapters(drivers, adapters.and(record::configured_adapters(words)), kept),
                 domains: kept,
-                controls: controls.and(record::configured_controls(s)),
+                controls: controls.and(record::configured_controls(words)),
             }
         }
     }
 }
 
 // Whether a guest can use a queue: the device with the id is open, and the queue is in its guest masks.
-pub fn usable(s: &[u64; WORDS], q: &[u8; 65536], i: Id, a: Apid, d: Apqi) -> bool
-    ensures { λ r. ⌜ r ≡ usable (stateIn (now (s .entry)) (now (q .entry))) (deviceIn (now (s .entry)) (placeOf i (deviceIn (now (s .entry))))) (a .0 * 256 + d .0) ⌝ }
+pub fn usable(words: &Words, drivers: &Drivers, id: Id, adapter: Apid, domain: Apqi) -> bool
+    ensures { λ r. ⌜ r ≡ usable (stateIn (now (words .entry)) (now (drivers .entry))) (deviceIn (now (words .entry)) (slotOf id (deviceIn (now (words .entry))))) (adapter .0 * 256 + domain .0) ⌝ }
 {
-    let p = lookup::find(s, i);
-    if !record::is_open(s, p) {
+    let slot = lookup::find(words, id);
+    if !record::is_open(words, slot) {
         return false;
     }
-    let m = masks_at(s, q, p, Matrix::Guest);
-    let n = a.0;
+    let m = masks_at(words, drivers, slot, Matrix::Guest);
+    let n = adapter.0;
     let adapters = m.adapters;
     if !adapters.has(n) {
         return false;
     }
     let domains = m.domains;
-    domains.has(d.0)
+    domains.has(domain.0)
 }
 
 // The adapters of which every queue of the domains is bound to passthrough.
-fn passed_adapters(q: &[u8; 65536], adapters: Mask, domains: Mask) -> Mask
-    ensures { λ r. ⌜ bits r ≡ (λ j. bits adapters j && not (heldBack (now (q .entry)) (bits domains) j)) ⌝ }
+fn passed_adapters(drivers: &Drivers, adapters: Mask, domains: Mask) -> Mask
+    ensures { λ r. ⌜ bits r ≡ (λ j. bits adapters j && not (heldBack (now (drivers .entry)) (bits domains) j)) ⌝ }
 {
     let mut m = adapters;
-    let mut a = 0usize;
-    while a < 256 {
-        m = kept_adapter(q, a, m, domains);
-        a += 1;
+    let mut adapter = 0usize;
+    while adapter < 256 {
+        m = kept_adapter(drivers, adapter, m, domains);
+        adapter += 1;
     }
     m
 }
 
 // A mask with adapter a dropped, if it is there and one of its queues is not passed through.
-fn kept_adapter(q: &[u8; 65536], a: usize, m: Mask, domains: Mask) -> Mask
-    requires { ⌜ a < 256 ⌝ }
-    ensures { λ r. ⌜ bits r ≡ (λ j. bits m j && not (eqb j a && heldBack (now (q .entry)) (bits domains) j)) ⌝ }
+fn kept_adapter(drivers: &Drivers, adapter: usize, mask: Mask, domains: Mask) -> Mask
+    requires { ⌜ adapter < 256 ⌝ }
+    ensures { λ r. ⌜ bits r ≡ (λ j. bits mask j && not (eqb j adapter && heldBack (now (drivers .entry)) (bits domains) j)) ⌝ }
 {
-    if m.has((a % 256) as u8) {
-        if !row_passed(q, a, domains) {
-            return m.without((a % 256) as u8);
+    if mask.has((adapter % 256) as u8) {
+        if !row_passed(drivers, adapter, domains) {
+            return mask.without((adapter % 256) as u8);
         }
     }
-    m
+    mask
 }
 
 // Whether every queue of adapter a and these domains is bound to passthrough.
-fn row_passed(q: &[u8; 65536], a: usize, domains: Mask) -> bool
-    requires { ⌜ a < 256 ⌝ }
-    ensures { λ r. ⌜ r ≡ not (heldBack (now (q .entry)) (bits domains) a) ⌝ }
+fn row_passed(drivers: &Drivers, adapter: usize, domains: Mask) -> bool
+    requires { ⌜ adapter < 256 ⌝ }
+    ensures { λ r. ⌜ r ≡ not (heldBack (now (drivers .entry)) (bits domains) adapter) ⌝ }
 {
-    let mut d = 0usize;
-    while d < 256 {
-        if domains.has((d % 256) as u8) {
-            if q[a * 256 + d] != 2 {
+    let mut domain = 0usize;
+    while domain < 256 {
+        if domains.has((domain % 256) as u8) {
+            if drivers[adapter * 256 + domain] != 2 {
                 return false;
             }
         }
-        d += 1;
+        domain += 1;
     }
     true
 }

@@ -10,7 +10,7 @@ use mir.Val.{Val}
 use lib.ListN.{set}
 use Rattle.errno.specs.Outcome.{Outcome, granted, refused}
 use Rattle.errno.specs.Errno.{numberOf}
-use Rattle.errno.specs.declared.Errno.the-variants.{Enodev}
+use Rattle.errno.specs.declared.Errno.the-variants.{Enodev, Einval, Eaddrinuse}
 use Rattle.mask.specs.declared.Mask.{Mask}
 use Rattle.mask.specs.Bits.{Bits, bits, someBelow, both, bitsAbove}
 use Rattle.mask.proofs.Laws.{Words, mask-words}
@@ -20,7 +20,7 @@ use Rattle.masktext.specs.Text.{outcome, maskText}
 use Rattle.rules.proofs.Configuration.{the-row as config-row}
 use Rattle.rules.specs.declared.Configuration.{Configuration}
 use Rattle.rules.specs.declared.Answer.the-variants.{Done, Refused}
-use Rattle.rules.specs.State.{HostMasks, places, queues, inProduct}
+use Rattle.rules.specs.State.{HostMasks, slots, queues, inProduct}
 use Rattle.rules.specs.Queues.{reserved, configured}
 use Rattle.rules.specs.Commands.{reading, setHost, withHost, assignedElsewhere, answered, errnoOf, stateAfter, beyondLimits, stored, withConfig, configure}
 use Rattle.rules.proofs.Products.{elsewhere-anywhere}
@@ -44,29 +44,29 @@ unbind-next qs gone n b e =
 module _ (text ws : List ℕ) (at : ℕ) (host : Bits → HostMasks) (old : Mask) (new : MaskRead) (was : bits old ≡ maskAt ws at)
     (read : outcome new ≡ maskText text (bits old)) where
   -- what the text comes to
-  comes : maskText text (maskAt ws at) ≡ cond (new .good) (granted (bits (new .mask))) (refused 22)
+  comes : maskText text (maskAt ws at) ≡ cond (new .good) (granted (bits (new .mask))) (refused Einval)
   unfolding outcome
   comes = sym (read ∙ ap (maskText text) was)
 
-  pub bad-text : new .good ≡ false → (qs : List ℕ) → reading (maskText text (maskAt ws at)) (λ m. setHost (host m) (stateIn ws qs)) ≡ refused 22
+  pub bad-text : new .good ≡ false → (qs : List ℕ) → reading (maskText text (maskAt ws at)) (λ m. setHost (host m) (stateIn ws qs)) ≡ refused Einval
   unfolding reading
   bad-text e qs =
       ap (λ (o : Outcome Bits). reading o (λ m. setHost (host m) (stateIn ws qs)))
-      (comes ∙ ap (λ (b : Bool). cond b (granted (bits (new .mask))) (refused 22)) e)
+      (comes ∙ ap (λ (b : Bool). cond b (granted (bits (new .mask))) (refused Einval)) e)
 
   module _ (good : new .good ≡ true) where
     read-as : maskText text (maskAt ws at) ≡ granted (bits (new .mask))
-    read-as = comes ∙ ap (λ (b : Bool). cond b (granted (bits (new .mask))) (refused 22)) good
+    read-as = comes ∙ ap (λ (b : Bool). cond b (granted (bits (new .mask))) (refused Einval)) good
 
     -- t says whether a queue that the new masks reserve is assigned
-    pub good-text : (us ds : Bits) (t : Bool) → t ≡ someBelow queues (both (inProduct us ds) (assignedElsewhere places (deviceIn ws)))
+    pub good-text : (us ds : Bits) (t : Bool) → t ≡ someBelow queues (both (inProduct us ds) (assignedElsewhere slots (deviceIn ws)))
         → inProduct us ds ≡ reserved (host (bits (new .mask))) → (qs : List ℕ)
         → reading (maskText text (maskAt ws at)) (λ m. setHost (host m) (stateIn ws qs))
-        ≡ cond t (refused 98) (granted (withHost (host (bits (new .mask))) (stateIn ws qs)))
+        ≡ cond t (refused Eaddrinuse) (granted (withHost (host (bits (new .mask))) (stateIn ws qs)))
     unfolding reading setHost stateIn
     good-text us ds t e same qs =
         ap (λ (o : Outcome Bits). reading o (λ m. setHost (host m) (stateIn ws qs))) read-as
-        ∙ ap (λ (b : Bool). cond b (refused 98) (granted (withHost (host (bits (new .mask))) (stateIn ws qs))))
+        ∙ ap (λ (b : Bool). cond b (refused Eaddrinuse) (granted (withHost (host (bits (new .mask))) (stateIn ws qs))))
         (sym (e ∙ ap₂ (λ (a b : Bits). someBelow queues (both a b)) same (elsewhere-anywhere (deviceIn ws))))
 
     -- the words that are put
@@ -111,9 +111,9 @@ module _ (g : Configuration) (ws qs : List ℕ) where
   unfolding takenAway configured stored
   gone-away us ds p q = λ i k. inProduct (p i) (q i) k && not (inProduct (bits (g .adapters)) (bits (g .domains)) k)
 
-  by-test : (t : Bool) → beyondLimits (limitsIn ws) g ≡ t → configure g (stateIn ws qs) ≡ cond t (refused 19) (granted (withConfig (stored g) (stateIn ws qs)))
+  by-test : (t : Bool) → beyondLimits (limitsIn ws) g ≡ t → configure g (stateIn ws qs) ≡ cond t (refused Enodev) (granted (withConfig (stored g) (stateIn ws qs)))
   unfolding configure stateIn
-  by-test t e = ap (λ (b : Bool). cond b (refused 19) (granted (withConfig (stored g) (stateIn ws qs)))) e
+  by-test t e = ap (λ (b : Bool). cond b (refused Enodev) (granted (withConfig (stored g) (stateIn ws qs)))) e
 
   pub config-refused : beyondLimits (limitsIn ws) g ≡ true → Configured g ws ws qs qs (Refused Enodev)
   unfolding answered errnoOf stateAfter numberOf

@@ -3,8 +3,9 @@
 // Rests on errno, mask, masktext, rules, record and lookup.
 use errno::Errno;
 use mask::Mask;
-use record::PLACES;
-use record::WORDS;
+use record::Drivers;
+use record::SLOTS;
+use record::Words;
 use rules::Answer;
 use rules::Configuration;
 ghost use Prim.Native.Nat.{_<_};
@@ -17,100 +18,100 @@ ghost use Rattle.record.specs.Layout.{apmaskAt, aqmaskAt, unbind};
 ghost use Rattle.record.specs.Carried.{Carried, Configured};
 ghost use Rattle.host.specs.Masks.{withMask};
 
-pub fn set_apmask(s: &mut [u64; WORDS], text: &[u8]) -> Answer
-    ensures { λ r. ⌜ Carried (setApmask (now (text .entry))) (withMask (now (s .entry)) apmaskAt (now (text .entry))) (now (s .entry)) (now (s .exit)) r ⌝ }
+pub fn set_apmask(words: &mut Words, text: &[u8]) -> Answer
+    ensures { λ r. ⌜ Carried (setApmask (now (text .entry))) (withMask (now (words .entry)) apmaskAt (now (text .entry))) (now (words .entry)) (now (words .exit)) r ⌝ }
 {
-    let old = record::apmask(s);
+    let old = record::apmask(words);
     let new = masktext::parse(text, old);
     if !new.good {
         return Answer::Refused(Errno::Einval);
     }
     let m = new.mask;
-    if lookup::taken(s, PLACES, m, record::aqmask(s)) {
+    if lookup::taken(words, SLOTS, m, record::aqmask(words)) {
         return Answer::Refused(Errno::Eaddrinuse);
     }
-    record::hold_words(s);
-    record::put_apmask(s, m);
+    record::hold_words(words);
+    record::put_apmask(words, m);
     Answer::Done
 }
 
-pub fn set_aqmask(s: &mut [u64; WORDS], text: &[u8]) -> Answer
-    ensures { λ r. ⌜ Carried (setAqmask (now (text .entry))) (withMask (now (s .entry)) aqmaskAt (now (text .entry))) (now (s .entry)) (now (s .exit)) r ⌝ }
+pub fn set_aqmask(words: &mut Words, text: &[u8]) -> Answer
+    ensures { λ r. ⌜ Carried (setAqmask (now (text .entry))) (withMask (now (words .entry)) aqmaskAt (now (text .entry))) (now (words .entry)) (now (words .exit)) r ⌝ }
 {
-    let old = record::aqmask(s);
+    let old = record::aqmask(words);
     let new = masktext::parse(text, old);
     if !new.good {
         return Answer::Refused(Errno::Einval);
     }
     let m = new.mask;
-    if lookup::taken(s, PLACES, record::apmask(s), m) {
+    if lookup::taken(words, SLOTS, record::apmask(words), m) {
         return Answer::Refused(Errno::Eaddrinuse);
     }
-    record::hold_words(s);
-    record::put_aqmask(s, m);
+    record::hold_words(words);
+    record::put_aqmask(words, m);
     Answer::Done
 }
 
 // Replaces the configuration. A queue that is no longer configured is unbound at once.
-pub fn configure(s: &mut [u64; WORDS], q: &mut [u8; 65536], c: Configuration) -> Answer
-    ensures { λ r. ⌜ Configured c (now (s .entry)) (now (s .exit)) (now (q .entry)) (now (q .exit)) r ⌝ }
+pub fn configure(words: &mut Words, drivers: &mut Drivers, configuration: Configuration) -> Answer
+    ensures { λ r. ⌜ Configured configuration (now (words .entry)) (now (words .exit)) (now (drivers .entry)) (now (drivers .exit)) r ⌝ }
 {
-    let adapters = c.adapters;
-    let domains = c.domains;
-    let controls = c.controls;
-    if adapters.exceeds(record::max_adapter(s)) {
+    let adapters = configuration.adapters;
+    let domains = configuration.domains;
+    let controls = configuration.controls;
+    if adapters.exceeds(record::max_adapter(words)) {
         return Answer::Refused(Errno::Enodev);
     }
-    if domains.exceeds(record::max_domain(s)) {
+    if domains.exceeds(record::max_domain(words)) {
         return Answer::Refused(Errno::Enodev);
     }
-    if controls.exceeds(record::max_domain(s)) {
+    if controls.exceeds(record::max_domain(words)) {
         return Answer::Refused(Errno::Enodev);
     }
-    record::hold_words(s);
-    record::hold_drivers(q);
+    record::hold_words(words);
+    record::hold_drivers(drivers);
     unbind(
-        q,
-        record::configured_adapters(s),
-        record::configured_domains(s),
+        drivers,
+        record::configured_adapters(words),
+        record::configured_domains(words),
         adapters,
         domains,
     );
-    record::put_configuration(s, c);
+    record::put_configuration(words, configuration);
     Answer::Done
 }
 
 // Clears the drivers of the queues that were configured and are not any more.
-fn unbind(q: &mut [u8; 65536], was_adapters: Mask, was_domains: Mask, adapters: Mask, domains: Mask)
-    ensures { λ r. ⌜ now (q .exit) ≡ unbind (now (q .entry)) (λ k. inProduct (bits «was_adapters») (bits «was_domains») k && not (inProduct (bits adapters) (bits domains) k)) queues ⌝ }
+fn unbind(drivers: &mut Drivers, was_adapters: Mask, was_domains: Mask, adapters: Mask, domains: Mask)
+    ensures { λ r. ⌜ now (drivers .exit) ≡ unbind (now (drivers .entry)) (λ queue. inProduct (bits «was_adapters») (bits «was_domains») queue && not (inProduct (bits adapters) (bits domains) queue)) queues ⌝ }
 {
-    let mut k = 0usize;
-    while k < 65536 {
-        if gone(was_adapters, was_domains, adapters, domains, k) {
-            q[k] = 0;
+    let mut queue = 0usize;
+    while queue < 65536 {
+        if gone(was_adapters, was_domains, adapters, domains, queue) {
+            drivers[queue] = 0;
         }
-        k += 1;
+        queue += 1;
     }
 }
 
 // Whether a queue was configured and is not any more.
-fn gone(was_adapters: Mask, was_domains: Mask, adapters: Mask, domains: Mask, k: usize) -> bool
-    requires { ⌜ k < 65536 ⌝ }
-    ensures { λ r. ⌜ r ≡ (inProduct (bits «was_adapters») (bits «was_domains») k && not (inProduct (bits adapters) (bits domains) k)) ⌝ }
+fn gone(was_adapters: Mask, was_domains: Mask, adapters: Mask, domains: Mask, queue: usize) -> bool
+    requires { ⌜ queue < 65536 ⌝ }
+    ensures { λ r. ⌜ r ≡ (inProduct (bits «was_adapters») (bits «was_domains») queue && not (inProduct (bits adapters) (bits domains) queue)) ⌝ }
 {
-    if in_product(was_adapters, was_domains, k) {
-        return !in_product(adapters, domains, k);
+    if in_product(was_adapters, was_domains, queue) {
+        return !in_product(adapters, domains, queue);
     }
     false
 }
 
 // Whether a queue is in a product.
-fn in_product(adapters: Mask, domains: Mask, k: usize) -> bool
-    requires { ⌜ k < 65536 ⌝ }
-    ensures { λ r. ⌜ r ≡ inProduct (bits adapters) (bits domains) k ⌝ }
+fn in_product(adapters: Mask, domains: Mask, queue: usize) -> bool
+    requires { ⌜ queue < 65536 ⌝ }
+    ensures { λ r. ⌜ r ≡ inProduct (bits adapters) (bits domains) queue ⌝ }
 {
-    if adapters.has((k / 256 % 256) as u8) {
-        return domains.has((k % 256) as u8);
+    if adapters.has((queue / 256 % 256) as u8) {
+        return domains.has((queue % 256) as u8);
     }
     false
 }

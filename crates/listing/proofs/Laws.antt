@@ -12,7 +12,7 @@ use lib.Seq.{sets-eq, take-all, take-at, drop-at, drop-drop, getD-append-seam, a
 use lib.Dec.{eqb, eqb·suc-zero}
 use Rattle.mask.specs.Bits.{Bits, countBelow}
 use Rattle.mask.proofs.Laws.{count-cong, count-add}
-use Rattle.rules.specs.State.{queues, places, inProduct}
+use Rattle.rules.specs.State.{queues, slots, inProduct}
 use Rattle.rules.proofs.Products.{in-product}
 use Rattle.listing.specs.Lines.{hexDigit, lineOf, linesOf, queuesFrom, queuesAt, fitting, nextPlace}
 use Rattle.listing.specs.Written.{Written}
@@ -20,7 +20,7 @@ use Rattle.listing.specs.Listed.{Listing, matrix, listErrno}
 use Rattle.listing.specs.declared.Listed.{Listed}
 use Rattle.rules.specs.declared.Id.{Id}
 use Rattle.rules.specs.declared.Matrix.{Matrix}
-use Rattle.rules.specs.Commands.{answered, placeOf}
+use Rattle.rules.specs.Commands.{answered, slotOf}
 use Rattle.rules.specs.Queues.{matrixAdapters, matrixDomains}
 use Rattle.record.specs.Layout.{stateIn, deviceIn}
 use borrow.Author.Tests.{lt-ltb, le-ltb, le-leb, lt-leb}
@@ -220,19 +220,19 @@ module _ {m : Bits} {place : ℕ} {b₀ b : List ℕ} {k at last : ℕ} (s : Sof
 
 -- ---- a whole call
 
-pub errno-absent : (ws : List ℕ) (i : Id) (n : ℕ) → places ≤ placeOf i (deviceIn ws) → listErrno ws i n ≡ 2
+pub errno-absent : (ws : List ℕ) (i : Id) (n : ℕ) → slots ≤ slotOf i (deviceIn ws) → listErrno ws i n ≡ 2
 unfolding listErrno
-errno-absent ws i n h = rw (le-ltb (placeOf i (deviceIn ws)) places h)
+errno-absent ws i n h = rw (le-ltb (slotOf i (deviceIn ws)) slots h)
 
-pub errno-short : (ws : List ℕ) (i : Id) (n : ℕ) → placeOf i (deviceIn ws) < places → n < 8 → listErrno ws i n ≡ 28
+pub errno-short : (ws : List ℕ) (i : Id) (n : ℕ) → slotOf i (deviceIn ws) < slots → n < 8 → listErrno ws i n ≡ 28
 unfolding listErrno
-errno-short ws i n h l = rw (lt-ltb (placeOf i (deviceIn ws)) places h, lt-ltb n 8 l)
+errno-short ws i n h l = rw (lt-ltb (slotOf i (deviceIn ws)) slots h, lt-ltb n 8 l)
 
-pub errno-none : (ws : List ℕ) (i : Id) (n : ℕ) → placeOf i (deviceIn ws) < places → 8 ≤ n → listErrno ws i n ≡ 0
+pub errno-none : (ws : List ℕ) (i : Id) (n : ℕ) → slotOf i (deviceIn ws) < slots → 8 ≤ n → listErrno ws i n ≡ 0
 unfolding listErrno
-errno-none ws i n h l = rw (lt-ltb (placeOf i (deviceIn ws)) places h, le-ltb n 8 l)
+errno-none ws i n h l = rw (lt-ltb (slotOf i (deviceIn ws)) slots h, le-ltb n 8 l)
 
-pub matrix-at : (ws qs : List ℕ) (i : Id) (w : Matrix) {a d : Bits} {p : ℕ} → p ≡ placeOf i (deviceIn ws)
+pub matrix-at : (ws qs : List ℕ) (i : Id) (w : Matrix) {a d : Bits} {p : ℕ} → p ≡ slotOf i (deviceIn ws)
     → a ≡ matrixAdapters w (stateIn ws qs) (deviceIn ws p) → d ≡ matrixDomains w (stateIn ws qs) (deviceIn ws p) → inProduct a d ≡ matrix ws qs i w
 unfolding matrix
 matrix-at ws qs i w e a d =

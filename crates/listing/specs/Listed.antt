@@ -9,9 +9,9 @@ use lib.Dec.{eqb, ltb, leb}
 use Rattle.mask.specs.Bits.{Bits}
 use Rattle.rules.specs.declared.Id.{Id}
 use Rattle.rules.specs.declared.Matrix.{Matrix}
-use Rattle.rules.specs.State.{inProduct, places}
+use Rattle.rules.specs.State.{inProduct, slots}
 use Rattle.rules.specs.Queues.{matrixAdapters, matrixDomains}
-use Rattle.rules.specs.Commands.{answered, placeOf}
+use Rattle.rules.specs.Commands.{answered, slotOf}
 use Rattle.record.specs.Layout.{stateIn, deviceIn}
 use Rattle.listing.specs.declared.Listed.{Listed}
 use Rattle.listing.specs.Lines.{linesOf, fitting, nextPlace}
@@ -19,12 +19,12 @@ use Rattle.listing.specs.Lines.{linesOf, fitting, nextPlace}
 -- the queues of a matrix of the device with an id
 unfoldable pub matrix : List ℕ → List ℕ → Id → Matrix → Bits
 matrix ws qs i w =
-    inProduct (matrixAdapters w (stateIn ws qs) (deviceIn ws (placeOf i (deviceIn ws))))
-    (matrixDomains w (stateIn ws qs) (deviceIn ws (placeOf i (deviceIn ws))))
+    inProduct (matrixAdapters w (stateIn ws qs) (deviceIn ws (slotOf i (deviceIn ws))))
+    (matrixDomains w (stateIn ws qs) (deviceIn ws (slotOf i (deviceIn ws))))
 
 -- ENOENT, then ENOSPC for a buffer of less than 8 bytes; 0 is no refusal
 unfoldable pub listErrno : List ℕ → Id → ℕ → ℕ
-listErrno ws i n = cond (ltb (placeOf i (deviceIn ws)) places) (cond (ltb n 8) 28 0) 2
+listErrno ws i n = cond (ltb (slotOf i (deviceIn ws)) slots) (cond (ltb n 8) 28 0) 2
 
 -- a call with a place and the buffer `before`, which it leaves as `after`
 pub record Listing (ws qs : List ℕ) (i : Id) (w : Matrix) (place : ℕ) (before after : List ℕ) (r : Listed) : Type 0 where

@@ -3,8 +3,9 @@
 // Rests on errno, mask, rules, record, lookup and guest.
 use errno::Errno;
 use mask::Mask;
-use record::PLACES;
-use record::WORDS;
+use record::Drivers;
+use record::SLOTS;
+use record::Words;
 use rules::Answer;
 use rules::Id;
 use rules::Masks;
@@ -30,42 +31,42 @@ pub struct Listed {
 
 // Writes the lines of the queues at or after a place, as many whole lines as fit into the buffer.
 pub fn list(
-    s: &[u64; WORDS],
-    q: &[u8; 65536],
-    i: Id,
-    w: Matrix,
+    words: &Words,
+    drivers: &Drivers,
+    id: Id,
+    matrix: Matrix,
     place: usize,
     buf: &mut [u8],
 ) -> Listed
-    ensures { λ r. ⌜ Listing (now (s .entry)) (now (q .entry)) i w place (now (buf .entry)) (now (buf .exit)) r ⌝ }
+    ensures { λ r. ⌜ Listing (now (words .entry)) (now (drivers .entry)) id matrix place (now (buf .entry)) (now (buf .exit)) r ⌝ }
 {
-    let p = lookup::find(s, i);
-    if PLACES <= p {
+    let slot = lookup::find(words, id);
+    if SLOTS <= slot {
         return refused(Errno::Enoent, place);
     }
     if buf.len() < 8 {
         return refused(Errno::Enospc, place);
     }
-    let m = guest::masks_at(s, q, p, w);
+    let m = guest::masks_at(words, drivers, slot, matrix);
     let adapters = m.adapters;
     let domains = m.domains;
     write(adapters, domains, place, buf)
 }
 
 // How many lines a whole matrix has.
-pub fn lines(m: Masks) -> u32
-    ensures { λ r. ⌜ r ≡ length (queuesAt 0 (inProduct (bits (m .adapters)) (bits (m .domains)))) ⌝ }
+pub fn lines(masks: Masks) -> u32
+    ensures { λ r. ⌜ r ≡ length (queuesAt 0 (inProduct (bits (masks .adapters)) (bits (masks .domains)))) ⌝ }
 {
-    let adapters = m.adapters;
-    let domains = m.domains;
+    let adapters = masks.adapters;
+    let domains = masks.domains;
     adapters.count() * domains.count()
 }
 
-fn refused(e: Errno, place: usize) -> Listed
-    ensures { λ r. ⌜ (answered (r .answer) ≡ numberOf e) × (r .written ≡ 0) × (r .next ≡ place) ⌝ }
+fn refused(errno: Errno, place: usize) -> Listed
+    ensures { λ r. ⌜ (answered (r .answer) ≡ numberOf errno) × (r .written ≡ 0) × (r .next ≡ place) ⌝ }
 {
     Listed {
-        answer: Answer::Refused(e),
+        answer: Answer::Refused(errno),
         written: 0,
         next: place,
     }
@@ -77,11 +78,11 @@ fn write(adapters: Mask, domains: Mask, place: usize, buf: &mut [u8]) -> Listed
     ensures answer { λ r. ⌜ answered (r .answer) ≡ 0 ⌝ }
     ensures lines { λ r. ⌜ Written (inProduct (bits adapters) (bits domains)) place (now (buf .entry)) (now (buf .exit)) (r .written) (r .next) ⌝ }
 {
-    let mut k = place;
+    let mut queue = place;
     let mut at = 0usize;
     let mut last = 0usize;
-    while k < 65536 {
-        if in_product(adapters, domains, k) {
+    while queue < 65536 {
+        if in_product(adapters, domains, queue) {
             if buf.len() - at < 8 {
                 return Listed {
                     answer: Answer::Done,
@@ -89,11 +90,11 @@ fn write(adapters: Mask, domains: Mask, place: usize, buf: &mut [u8]) -> Listed
                     next: last + 1,
                 };
             }
-            put_line(buf, at, k);
+            put_line(buf, at, queue);
             at += 8;
-            last = k;
+            last = queue;
         }
-        k += 1;
+        queue += 1;
     }
     Listed {
         answer: Answer::Done,
@@ -102,24 +103,24 @@ fn write(adapters: Mask, domains: Mask, place: usize, buf: &mut [u8]) -> Listed
     }
 }
 
-fn in_product(adapters: Mask, domains: Mask, k: usize) -> bool
-    requires { ⌜ k < queues ⌝ }
-    ensures { λ r. ⌜ r ≡ inProduct (bits adapters) (bits domains) k ⌝ }
+fn in_product(adapters: Mask, domains: Mask, queue: usize) -> bool
+    requires { ⌜ queue < queues ⌝ }
+    ensures { λ r. ⌜ r ≡ inProduct (bits adapters) (bits domains) queue ⌝ }
 {
-    if adapters.has((k / 256 % 256) as u8) {
-        domains.has((k % 256) as u8)
+    if adapters.has((queue / 256 % 256) as u8) {
+        domains.has((queue % 256) as u8)
     } else {
         false
     }
 }
 
 // Writes the line of queue k at an index of the buffer.
-fn put_line(buf: &mut [u8], at: usize, k: usize)
-    requires { ⌜ (at + 8 ≤ length (now buf)) × (k < queues) ⌝ }
-    ensures { λ r. ⌜ now (buf .exit) ≡ take at (now (buf .entry)) ++ lineOf k ++ drop (at + 8) (now (buf .entry)) ⌝ }
+fn put_line(buf: &mut [u8], at: usize, queue: usize)
+    requires { ⌜ (at + 8 ≤ length (now buf)) × (queue < queues) ⌝ }
+    ensures { λ r. ⌜ now (buf .exit) ≡ take at (now (buf .entry)) ++ lineOf queue ++ drop (at + 8) (now (buf .entry)) ⌝ }
 {
-    let a = (k / 256 % 256) as u8;
-    let d = (k % 256) as u8;
+    let a = (queue / 256 % 256) as u8;
+    let d = (queue % 256) as u8;
     buf[at] = hex_digit(a / 16);
     buf[at + 1] = hex_digit(a % 16);
     buf[at + 2] = b'.';

@@ -1,4 +1,4 @@
--- What a command for a device comes to, by the place that its id is found at.
+-- What a command for a device comes to, by the slot that its id is found at.
 -- Assumes nothing.
 use Prim.Native.Nat.{ℕ, _≤_, _<_}
 use mathlib.Core.Bool.{cond}
@@ -6,27 +6,28 @@ use mathlib.Core.List.{List}
 use mathlib.Core.Path.{_≡_, sym, ap, subst, _∙_}
 use lib.Dec.{eqb, ltb}
 use Rattle.errno.specs.Outcome.{Outcome, granted, refused}
+use Rattle.errno.specs.declared.Errno.the-variants.{Enoent}
 use Rattle.rules.specs.declared.Answer.{Answer}
 use Rattle.rules.specs.declared.Answer.the-variants.{Done}
 use Rattle.rules.specs.declared.Id.{Id}
-use Rattle.rules.specs.State.{State, places}
-use Rattle.rules.specs.Commands.{placeOf, onDevice, answered, errnoOf, stateAfter}
+use Rattle.rules.specs.State.{State, slots}
+use Rattle.rules.specs.Commands.{slotOf, onDevice, answered, errnoOf, stateAfter}
 use Rattle.record.specs.Carried.{Carried}
 use Rattle.record.specs.Layout.{deviceIn, stateIn}
 use Rattle.record.proofs.Laws.{cond-below, cond-past, granted-carried}
 
-module _ (i : Id) (ws qs : List ℕ) (p : ℕ) (at : p ≡ placeOf i (deviceIn ws)) (next : ℕ → Outcome State) where
+module _ (i : Id) (ws qs : List ℕ) (p : ℕ) (at : p ≡ slotOf i (deviceIn ws)) (next : ℕ → Outcome State) where
   -- the id is unknown
-  pub unknown : places ≤ p → onDevice i (stateIn ws qs) next ≡ refused 2
+  pub unknown : slots ≤ p → onDevice i (stateIn ws qs) next ≡ refused Enoent
   unfolding onDevice stateIn
   unknown h =
-      subst (λ (k : ℕ). cond (ltb k places) (next k) (refused 2) ≡ refused 2) at (cond-past p places (next p) (refused 2) h)
+      subst (λ (k : ℕ). cond (ltb k slots) (next k) (refused Enoent) ≡ refused Enoent) at (cond-past p slots (next p) (refused Enoent) h)
 
-  -- the device is at place p
-  pub known : p < places → onDevice i (stateIn ws qs) next ≡ next p
+  -- the device is at slot p
+  pub known : p < slots → onDevice i (stateIn ws qs) next ≡ next p
   unfolding onDevice stateIn
   known h =
-      subst (λ (k : ℕ). cond (ltb k places) (next k) (refused 2) ≡ next p) at (cond-below p places (next p) (refused 2) h)
+      subst (λ (k : ℕ). cond (ltb k slots) (next k) (refused Enoent) ≡ next p) at (cond-below p slots (next p) (refused Enoent) h)
 
 -- an accepted command that leaves its effect
 pub done-carried : {rule : State → Outcome State} {effect ws after : List ℕ} (t : List ℕ → State) → after ≡ effect

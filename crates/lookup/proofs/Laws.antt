@@ -1,4 +1,4 @@
--- What the loops over the places keep.
+-- What the loops over the slots keep.
 -- Assumes nothing.
 use Prim.Native.Nat.{ℕ, _+_}
 use native.Mathlib.Numerals.{add-one}
@@ -19,7 +19,7 @@ and-no {a} b e = ap (λ (t : Bool). t && b) e
 abbrev pub shared : ℕ → Devices → Bits → Bits → Bits
 shared p vs us ds j = not (eqb j p) && (vs j .present && (someBelow 256 (both us (vs j .adapters)) && someBelow 256 (both ds (vs j .domains))))
 
--- none of one place more
+-- none of one slot more
 pub none-next : (n : ℕ) (m : Bits) → someBelow n m ≡ false → m n ≡ false → someBelow (n + 1) m ≡ false
 unfolding someBelow
 none-next n m e h = ap (λ (k : ℕ). someBelow k m) (add-one n) ∙ ap₂ (λ (a b : Bool). a || b) e h

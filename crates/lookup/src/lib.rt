@@ -1,89 +1,89 @@
-// Looking through the devices of a record: the place of an id, a free place, and whether a product is assigned.
+// Looking through the devices of a record: the slot of an id, a free slot, and whether a product is assigned.
 //
 // Rests on errno, mask, rules and record.
 use mask::Mask;
-use record::PLACES;
-use record::WORDS;
+use record::SLOTS;
+use record::Words;
 use rules::Id;
 use rules::Kind;
 ghost use mathlib.Core.Bool.{_&&_};
 ghost use mathlib.Core.Path.{_≡_};
 ghost use Rattle.mask.specs.Bits.{bits, someBelow, both};
 ghost use Rattle.rules.specs.State.{inProduct, queues};
-ghost use Rattle.rules.specs.Commands.{sameId, placeOf, freePlace, assignedElsewhere};
+ghost use Rattle.rules.specs.Commands.{sameId, slotOf, freeSlot, assignedElsewhere};
 ghost use Rattle.record.specs.Layout.{deviceIn};
 
-// The place of the device with an id, or PLACES where there is none.
-pub fn find(s: &[u64; WORDS], i: Id) -> usize
-    ensures { λ r. ⌜ r ≡ placeOf i (deviceIn (now (s .entry))) ⌝ }
+// The slot of the device with an id, or SLOTS where there is none.
+pub fn find(words: &Words, id: Id) -> usize
+    ensures { λ r. ⌜ r ≡ slotOf id (deviceIn (now (words .entry))) ⌝ }
 {
-    let mut p = 0usize;
-    while p < PLACES {
-        if is_at(s, p, i) {
-            return p;
+    let mut slot = 0usize;
+    while slot < SLOTS {
+        if is_at(words, slot, id) {
+            return slot;
         }
-        p += 1;
+        slot += 1;
     }
-    p
+    slot
 }
 
-// Whether the device with an id is at place p.
-fn is_at(s: &[u64; WORDS], p: usize, i: Id) -> bool
-    ensures { λ r. ⌜ r ≡ (deviceIn (now (s .entry)) p .present && sameId i (deviceIn (now (s .entry)) p .id)) ⌝ }
+// Whether the device with an id is at slot p.
+fn is_at(words: &Words, slot: usize, id: Id) -> bool
+    ensures { λ r. ⌜ r ≡ (deviceIn (now (words .entry)) slot .present && sameId id (deviceIn (now (words .entry)) slot .id)) ⌝ }
 {
-    if occupied(s, p) {
-        let j = record::id(s, p);
-        if i.hi == j.hi {
-            return i.lo == j.lo;
+    if occupied(words, slot) {
+        let j = record::id(words, slot);
+        if id.hi == j.hi {
+            return id.lo == j.lo;
         }
     }
     false
 }
 
-// Whether there is a device at place p, open or not.
-fn occupied(s: &[u64; WORDS], p: usize) -> bool
-    ensures { λ r. ⌜ r ≡ deviceIn (now (s .entry)) p .present ⌝ }
+// Whether there is a device at slot p, open or not.
+fn occupied(words: &Words, slot: usize) -> bool
+    ensures { λ r. ⌜ r ≡ deviceIn (now (words .entry)) slot .present ⌝ }
 {
-    record::present(s, p)
+    record::present(words, slot)
 }
 
-// The lowest free place, or PLACES where there is none.
-pub fn free(s: &[u64; WORDS]) -> usize
-    ensures { λ r. ⌜ r ≡ freePlace (deviceIn (now (s .entry))) ⌝ }
+// The lowest free slot, or SLOTS where there is none.
+pub fn free(words: &Words) -> usize
+    ensures { λ r. ⌜ r ≡ freeSlot (deviceIn (now (words .entry))) ⌝ }
 {
-    let mut p = 0usize;
-    while p < PLACES {
-        if !occupied(s, p) {
-            return p;
+    let mut slot = 0usize;
+    while slot < SLOTS {
+        if !occupied(words, slot) {
+            return slot;
         }
-        p += 1;
+        slot += 1;
     }
-    p
+    slot
 }
 
-// Whether a queue of a product is assigned to another device than the one at place p.
-pub fn taken(s: &[u64; WORDS], p: usize, adapters: Mask, domains: Mask) -> bool
-    ensures { λ r. ⌜ r ≡ someBelow queues (both (inProduct (bits adapters) (bits domains)) (assignedElsewhere p (deviceIn (now (s .entry))))) ⌝ }
+// Whether a queue of a product is assigned to another device than the one at slot p.
+pub fn taken(words: &Words, slot: usize, adapters: Mask, domains: Mask) -> bool
+    ensures { λ r. ⌜ r ≡ someBelow queues (both (inProduct (bits adapters) (bits domains)) (assignedElsewhere slot (deviceIn (now (words .entry))))) ⌝ }
 {
-    let mut j = 0usize;
-    while j < PLACES {
-        if j != p {
-            if shares(s, j, adapters, domains) {
+    let mut other = 0usize;
+    while other < SLOTS {
+        if other != slot {
+            if shares(words, other, adapters, domains) {
                 return true;
             }
         }
-        j += 1;
+        other += 1;
     }
     false
 }
 
-// Whether a queue of a product is assigned to the device at place j.
-fn shares(s: &[u64; WORDS], j: usize, adapters: Mask, domains: Mask) -> bool
-    ensures { λ r. ⌜ r ≡ (deviceIn (now (s .entry)) j .present && (someBelow 256 (both (bits adapters) (deviceIn (now (s .entry)) j .adapters)) && someBelow 256 (both (bits domains) (deviceIn (now (s .entry)) j .domains)))) ⌝ }
+// Whether a queue of a product is assigned to the device at slot j.
+fn shares(words: &Words, slot: usize, adapters: Mask, domains: Mask) -> bool
+    ensures { λ r. ⌜ r ≡ (deviceIn (now (words .entry)) slot .present && (someBelow 256 (both (bits adapters) (deviceIn (now (words .entry)) slot .adapters)) && someBelow 256 (both (bits domains) (deviceIn (now (words .entry)) slot .domains)))) ⌝ }
 {
-    if occupied(s, j) {
-        if adapters.meets(record::numbers(s, j, Kind::Adapter)) {
-            return domains.meets(record::numbers(s, j, Kind::Domain));
+    if occupied(words, slot) {
+        if adapters.meets(record::numbers(words, slot, Kind::Adapter)) {
+            return domains.meets(record::numbers(words, slot, Kind::Domain));
         }
     }
     false

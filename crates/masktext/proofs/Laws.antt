@@ -12,7 +12,9 @@ use lib.ListN.{length, getD, take, drop, length-drop, length-map, take-append-dr
 use lib.Seq.{length-take-le, take-all, drop-cons, take-suc, getD-take, getD-drop, drop-drop}
 use lib.Dec.{ltb, eqb, eqb·zero-suc, eqb·suc-zero, eqb·suc-suc}
 use borrow.Author.Tests.{le-leb, lt-leb, ne-eqb}
+use Rattle.errno.specs.declared.Errno.{Errno}
 use Rattle.errno.specs.Outcome.{granted, refused}
+use Rattle.errno.specs.declared.Errno.the-variants.{Einval}
 use Rattle.mask.specs.Bits.{Bits, bits, digit, bitAt, noBits, either, group}
 use Rattle.mask.proofs.Bit.{digit-zero}
 use Rattle.number.specs.Text.{digitOf, numberRule}
@@ -99,11 +101,11 @@ parts-at s at e h l n f = go (eq-or-lt-of-le l)
 
 -- what a bad answer and a good one come to
 module _ (r : MaskRead) where
-  pub outcome-bad : not (r .good) ≡ true → outcome r ≡ refused 22
+  pub outcome-bad : not (r .good) ≡ true → outcome r ≡ refused Einval
   unfolding outcome
   outcome-bad e = go (r .good) e
     where
-      go : (b : Bool) → not b ≡ true → cond b (granted (bits (r .mask))) (refused 22) ≡ refused 22
+      go : (b : Bool) → not b ≡ true → cond b (granted (bits (r .mask))) (refused Einval) ≡ refused Einval
       go true e = absurd (true≢false (sym e))
       go false e = refl
 
@@ -111,7 +113,7 @@ module _ (r : MaskRead) where
   unfolding outcome
   outcome-good e = go (r .good) e
     where
-      go : (b : Bool) → not b ≡ false → cond b (granted (bits (r .mask))) (refused 22) ≡ granted (bits (r .mask))
+      go : (b : Bool) → not b ≡ false → cond b (granted (bits (r .mask))) (refused Einval) ≡ granted (bits (r .mask))
       go true e = refl
       go false e = absurd (true≢false e)
 
@@ -121,7 +123,7 @@ unfolding items andThen
 items-good m n p ps e = rw e
 
 -- an item that is refused ends the list
-pub items-bad : (m : Bits) (p : List ℕ) (ps : List (List ℕ)) {n : ℕ} → item m p ≡ refused n → items m (p ∷ ps) ≡ refused n
+pub items-bad : (m : Bits) (p : List ℕ) (ps : List (List ℕ)) {n : Errno} → item m p ≡ refused n → items m (p ∷ ps) ≡ refused n
 unfolding items andThen
 items-bad m p ps e = rw e
 
@@ -131,7 +133,7 @@ unfolding item
 item-some m [] h = absurd (omega arith)
 item-some m (c ∷ cs) h = rw (take-all (length (c ∷ cs) - 1) cs (omega arith))
 
-pub item-none : (m : Bits) (s : List ℕ) → length s ≡ 0 → item m s ≡ refused 22
+pub item-none : (m : Bits) (s : List ℕ) → length s ≡ 0 → item m s ≡ refused Einval
 unfolding item
 item-none m [] h = refl
 item-none m (c ∷ cs) h = absurd (omega arith)
@@ -146,15 +148,15 @@ unfolding allHex
 all-hex-end s i h = rw (drop-of-length-le s {i = i} h)
 
 -- the digits of a mask: too few, too many, another byte among them, or right
-pub hex-few : (ds : List ℕ) → length ds < 1 → hexMask ds ≡ refused 22
+pub hex-few : (ds : List ℕ) → length ds < 1 → hexMask ds ≡ refused Einval
 unfolding hexMask
 hex-few ds h = rw (lt-leb 1 (length ds) h)
 
-pub hex-many : (ds : List ℕ) → 64 < length ds → hexMask ds ≡ refused 22
+pub hex-many : (ds : List ℕ) → 64 < length ds → hexMask ds ≡ refused Einval
 unfolding hexMask
 hex-many ds h = rw (le-leb 1 (length ds) (omega arith), lt-leb (length ds) 64 h)
 
-pub hex-other : (ds : List ℕ) → 1 ≤ length ds → length ds ≤ 64 → allHex ds ≡ false → hexMask ds ≡ refused 22
+pub hex-other : (ds : List ℕ) → 1 ≤ length ds → length ds ≤ 64 → allHex ds ≡ false → hexMask ds ≡ refused Einval
 unfolding hexMask
 hex-other ds h l e = rw (le-leb 1 (length ds) h, le-leb (length ds) 64 l, e)
 

@@ -6,13 +6,14 @@ use mathlib.Core.List.{List, [], _∷_, map}
 use lib.ListN.{length, drop}
 use lib.Dec.{eqb, ltb, leb}
 use Rattle.errno.specs.Outcome.{Outcome, granted, refused}
+use Rattle.errno.specs.declared.Errno.the-variants.{Einval}
 use Rattle.mask.specs.Bits.{Bits, bits, bitAt, included, excluded}
 use Rattle.number.specs.Text.{digitOf, body, startsHex, numberRule}
 use Rattle.masktext.specs.declared.MaskRead.{MaskRead}
 
 -- what an answer comes to: bad text is EINVAL
 unfoldable pub outcome : MaskRead → Outcome Bits
-outcome r = cond (r .good) (granted (bits (r .mask))) (refused 22)
+outcome r = cond (r .good) (granted (bits (r .mask))) (refused Einval)
 
 -- whether every byte is a hex digit
 unfoldable pub allHex : List ℕ → Bool
@@ -21,16 +22,16 @@ allHex (c ∷ cs) = ltb (digitOf c) 16 && allHex cs
 
 -- 1 to 64 hex digits, from bit 0 on; the bits to their right are zeros
 unfoldable pub hexMask : List ℕ → Outcome Bits
-hexMask ds = cond (leb 1 (length ds) && leb (length ds) 64 && allHex ds) (granted (bitAt 4 (map digitOf ds))) (refused 22)
+hexMask ds = cond (leb 1 (length ds) && leb (length ds) 64 && allHex ds) (granted (bitAt 4 (map digitOf ds))) (refused Einval)
 
 -- + sets the bit of an item's number, - clears it
 unfoldable pub signed : ℕ → Bits → Outcome ℕ → Outcome Bits
-signed sign m (granted n) = cond (eqb sign 43) (granted (included n m)) (cond (eqb sign 45) (granted (excluded n m)) (refused 22))
+signed sign m (granted n) = cond (eqb sign 43) (granted (included n m)) (cond (eqb sign 45) (granted (excluded n m)) (refused Einval))
 signed sign m (refused e) = refused e
 
 -- one item, worked on a mask: a sign and a number of at most 255
 unfoldable pub item : Bits → List ℕ → Outcome Bits
-item m [] = refused 22
+item m [] = refused Einval
 item m (sign ∷ n) = signed sign m (numberRule 255 n)
 
 -- what comes of a mask that was granted

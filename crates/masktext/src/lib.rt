@@ -7,6 +7,7 @@ ghost use Prim.Native.Nat.{ℕ, _<_, _≤_};
 ghost use mathlib.Core.Bool.{false};
 ghost use lib.ListN.{length, getD, drop};
 ghost use Rattle.errno.specs.Outcome.{granted, refused};
+ghost use Rattle.errno.specs.declared.Errno.the-variants.{Einval};
 ghost use Rattle.mask.specs.Bits.{bits};
 ghost use Rattle.masktext.specs.Text.{outcome, hexMask, parts, maskText};
 ghost use Rattle.masktext.specs.Text as Text;
@@ -58,7 +59,7 @@ fn hex_mask(s: &[u8], old: Mask) -> MaskRead
 }
 
 fn bad(old: Mask) -> MaskRead
-    ensures { λ r. ⌜ outcome r ≡ refused 22 ⌝ }
+    ensures { λ r. ⌜ outcome r ≡ refused Einval ⌝ }
     ensures { λ r. ⌜ (r .good ≡ false → r .mask ≡ old) ⌝ }
 {
     MaskRead {

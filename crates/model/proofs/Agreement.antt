@@ -10,6 +10,9 @@ use mathlib.Core.Logic.{⊎-elim}
 use lib.Dec.{eqb, ltb, leb, lit<}
 use borrow.Author.Tests.{lt-ltb, le-ltb, ltb-true, ltb-false, le-leb, lt-leb, leb-true, leb-false, eqb-true, eq-eqb}
 use Rattle.errno.specs.Outcome.{Outcome, granted, refused}
+use Rattle.errno.specs.Errno.{numberOf}
+use Rattle.errno.specs.declared.Errno.{Errno}
+use Rattle.errno.specs.declared.Errno.the-variants.{Enoent, Ebusy, Eexist, Enodev, Einval, Enospc, Eaddrinuse, Eaddrnotavail}
 use Rattle.mask.specs.Bits.{Bits, bits, someBelow, both, bitsAbove, included, excluded, noBits, allBits}
 use Rattle.mask.proofs.Laws.{same-test, some-intro, some-elim, some-none, none-some, some-cong}
 use Rattle.number.specs.Text.{numberText}
@@ -18,14 +21,14 @@ use Rattle.rules.specs.declared.Id.{Id}
 use Rattle.rules.specs.declared.Kind.{Kind}
 use Rattle.rules.specs.declared.Kind.the-variants.{Adapter, Domain, Control}
 use Rattle.rules.specs.declared.Configuration.{Configuration}
-use Rattle.rules.specs.State.{Limits, HostMasks, Config, Device, Devices, State, places, queues, inProduct, noDevice, fresh}
+use Rattle.rules.specs.State.{Limits, HostMasks, Config, Device, Devices, State, slots, queues, inProduct, noDevice, fresh}
 use Rattle.rules.specs.Queues as Queues
 use Rattle.rules.specs.Commands as Commands
-use Rattle.rules.specs.Commands.{errnoOf, stateAfter, placeOf, freePlace, sameId, firstFrom, withDevice, withHost, withConfig, onDevice, reading, newDevice, withOpen, numbersOf, withNumbers, limitOf, single, paired, adding, assignAt, setHost, stored, beyondLimits, product, assigned, assignedElsewhere}
-use Rattle.rules.proofs.Places.{first-le, first-holds, first-before}
+use Rattle.rules.specs.Commands.{errnoOf, stateAfter, slotOf, freeSlot, sameId, firstFrom, withDevice, withHost, withConfig, onDevice, reading, newDevice, withOpen, numbersOf, withNumbers, limitOf, single, paired, adding, assignAt, setHost, stored, beyondLimits, product, assigned, assignedElsewhere}
+use Rattle.rules.proofs.First.{first-le, first-holds, first-before}
 use Rattle.rules.proofs.Products.{queue-apid, queue-apqi, queue-below}
 use Rattle.model.specs.Steps.{Command, create, remove, openIt, closeIt, assign, unassign, setApmask, setAqmask, configure, Step, command, move, rule, after, afterAll, answers, commandsOf, queueOf}
-use Rattle.model.specs.Model.{Model, Check, Reply, most, somePair, named, known, room, lowest, place, its, holds, anotherHolds, someHolds, reserved, has, new, highest, bitAbove, put, bare, nobody, marked, turned, turn, masked, given, judged, withText, reply, start, replies, kept}
+use Rattle.model.specs.Model.{Model, Check, Reply, most, somePair, named, known, room, lowest, slot, its, holds, anotherHolds, someHolds, reserved, has, new, highest, bitAbove, put, bare, nobody, marked, turned, turn, masked, given, judged, withText, reply, start, replies, kept}
 
 -- a state without its drivers, as the model keeps it
 unfoldable pub erase : State → Model
@@ -42,7 +45,7 @@ erase s =
       device = s .device;
     }
 
--- ---- the two ways to look for places and pairs
+-- ---- the two ways to look for slots and pairs
 
 lowest-first : (n k : ℕ) (t : Bits) → lowest n k t ≡ firstFrom n k t
 unfolding lowest firstFrom
@@ -87,17 +90,17 @@ some-pair f = same-test forth back
         some-intro queues (λ q. f (q / 256) (q % 256)) (g .0 * 256 + h .0) (queue-below (g .0) (h .0) (g .1) (h .1))
         (ap₂ f (queue-apid (g .0) (h .0) (h .1)) (queue-apqi (g .0) (h .0) (h .1)) ∙ h .2)
 
-place-same : (i : Id) (s : State) → place i (erase s) ≡ placeOf i (s .device)
-unfolding place placeOf erase named sameId
-place-same i s = lowest-first places 0 (λ p. s .device p .present && sameId i (s .device p .id))
+slot-same : (i : Id) (s : State) → slot i (erase s) ≡ slotOf i (s .device)
+unfolding slot slotOf erase named sameId
+slot-same i s = lowest-first slots 0 (λ p. s .device p .present && sameId i (s .device p .id))
 
-known-same : (i : Id) (s : State) → known i (erase s) ≡ ltb (placeOf i (s .device)) places
-unfolding known placeOf erase named sameId
-known-same i s = some-first places (λ p. s .device p .present && sameId i (s .device p .id))
+known-same : (i : Id) (s : State) → known i (erase s) ≡ ltb (slotOf i (s .device)) slots
+unfolding known slotOf erase named sameId
+known-same i s = some-first slots (λ p. s .device p .present && sameId i (s .device p .id))
 
-room-same : (s : State) → room (erase s) ≡ ltb (freePlace (s .device)) places
-unfolding room freePlace erase
-room-same s = some-first places (λ p. not (s .device p .present))
+room-same : (s : State) → room (erase s) ≡ ltb (freeSlot (s .device)) slots
+unfolding room freeSlot erase
+room-same s = some-first slots (λ p. not (s .device p .present))
 
 -- ---- agreement
 
@@ -106,7 +109,7 @@ pub record Agrees (s : State) (o : Outcome State) (r : Reply) : Type 0 where
   pub errno : r .errno ≡ errnoOf o
   pub next : r .next ≡ erase (stateAfter s o)
 
-refuses : (s : State) (e : ℕ) → Agrees s (refused e) (record { errno = e; next = erase s })
+refuses : (s : State) (e : Errno) → Agrees s (refused e) (record { errno = numberOf e; next = erase s })
 unfolding errnoOf stateAfter
 refuses s e = record { errno = refl; next = refl }
 
@@ -122,22 +125,22 @@ other-way : (s : State) (b : Bool) (x y : Outcome State) (u v : Reply) → Agree
 other-way s true x y u v p q = p
 other-way s false x y u v p q = q
 
--- a check of the model on the id's place, in the service's words
+-- a check of the model on the id's slot, in the service's words
 module _ (i : Id) (s : State) where
   abbrev p : ℕ
-  p = placeOf i (s .device)
+  p = slotOf i (s .device)
 
   -- a command for a device
   on-device : (next : ℕ → Outcome State) (u : ℕ → Reply) → Agrees s (next p) (u p)
-      → Agrees s (onDevice i s next) (cond (not (known i (erase s))) (record { errno = 2; next = erase s }) (u (place i (erase s))))
+      → Agrees s (onDevice i s next) (cond (not (known i (erase s))) (record { errno = numberOf Enoent; next = erase s }) (u (slot i (erase s))))
   unfolding onDevice
   on-device next u h =
-      subst (λ (b : Bool). Agrees s (cond (ltb p places) (next p) (refused 2)) (cond (not b) (record { errno = 2; next = erase s }) (u (place i (erase s)))))
+      subst (λ (b : Bool). Agrees s (cond (ltb p slots) (next p) (refused Enoent)) (cond (not b) (record { errno = numberOf Enoent; next = erase s }) (u (slot i (erase s)))))
       (sym (known-same i s))
-      (subst (λ (x : ℕ). Agrees s (cond (ltb p places) (next p) (refused 2)) (cond (not (ltb p places)) (record { errno = 2; next = erase s }) (u x)))
-      (sym (place-same i s)) (other-way s (ltb p places) (next p) (refused 2) (u p) (record { errno = 2; next = erase s }) h (refuses s 2)))
+      (subst (λ (x : ℕ). Agrees s (cond (ltb p slots) (next p) (refused Enoent)) (cond (not (ltb p slots)) (record { errno = numberOf Enoent; next = erase s }) (u x)))
+      (sym (slot-same i s)) (other-way s (ltb p slots) (next p) (refused Enoent) (u p) (record { errno = numberOf Enoent; next = erase s }) h (refuses s Enoent)))
 
--- a device put at a place is put there in the model
+-- a device put at a slot is put there in the model
 put-same : (j : ℕ) (u w : Device) (s : State) → u ≡ w → put j u (erase s) ≡ erase (withDevice j w s)
 unfolding put erase withDevice
 put-same j u w s e =
@@ -153,7 +156,7 @@ put-same j u w s e =
       device = λ k. cond (eqb k j) x (s .device k);
     }) e
 
--- a new device, and an empty place
+-- a new device, and an empty slot
 bare-new : (i : Id) → bare true i ≡ newDevice i
 unfolding bare newDevice noBits
 bare-new i = refl
@@ -162,24 +165,24 @@ bare-none : bare false nobody ≡ noDevice
 unfolding bare nobody noDevice noBits
 bare-none = refl
 
-free-same : (s : State) → lowest most 0 (λ k. not (erase s .device k .present)) ≡ freePlace (s .device)
-unfolding erase freePlace
-free-same s = lowest-first places 0 (λ k. not (s .device k .present))
+free-same : (s : State) → lowest most 0 (λ k. not (erase s .device k .present)) ≡ freeSlot (s .device)
+unfolding erase freeSlot
+free-same s = lowest-first slots 0 (λ k. not (s .device k .present))
 
 created : (i : Id) (s : State) → Agrees s (Commands.create i s) (reply (create i) (erase s))
 unfolding Commands.create reply judged
 created i s =
-    subst (λ (b : Bool). Agrees s (Commands.create i s) (cond b (record { errno = 17; next = erase s }) rest)) (sym (known-same i s))
-    (same-way s (ltb (placeOf i (s .device)) places) (refused 17) inner (record { errno = 17; next = erase s }) rest (refuses s 17) later)
+    subst (λ (b : Bool). Agrees s (Commands.create i s) (cond b (record { errno = numberOf Eexist; next = erase s }) rest)) (sym (known-same i s))
+    (same-way s (ltb (slotOf i (s .device)) slots) (refused Eexist) inner (record { errno = numberOf Eexist; next = erase s }) rest (refuses s Eexist) later)
   where
     free : ℕ
-    free = freePlace (s .device)
+    free = freeSlot (s .device)
 
     inner : Outcome State
-    inner = cond (ltb free places) (granted (withDevice free (newDevice i) s)) (refused 28)
+    inner = cond (ltb free slots) (granted (withDevice free (newDevice i) s)) (refused Enospc)
 
     full : Reply
-    full = record { errno = 28; next = erase s }
+    full = record { errno = numberOf Enospc; next = erase s }
 
     done : ℕ → Reply
     done k = record { errno = 0; next = put k (bare true i) (erase s) }
@@ -190,24 +193,24 @@ created i s =
     later : Agrees s inner rest
     later =
         subst (λ (b : Bool). Agrees s inner (cond (not b) full (done (lowest most 0 (λ k. not (erase s .device k .present)))))) (sym (room-same s))
-        (subst (λ (x : ℕ). Agrees s inner (cond (not (ltb free places)) full (done x))) (sym (free-same s))
-        (other-way s (ltb free places) (granted (withDevice free (newDevice i) s)) (refused 28) (done free) full
+        (subst (λ (x : ℕ). Agrees s inner (cond (not (ltb free slots)) full (done x))) (sym (free-same s))
+        (other-way s (ltb free slots) (granted (withDevice free (newDevice i) s)) (refused Enospc) (done free) full
         (grants s (withDevice free (newDevice i) s) (put free (bare true i) (erase s)) (put-same free (bare true i) (newDevice i) s (bare-new i)))
-        (refuses s 28)))
+        (refuses s Enospc)))
 
 removed : (i : Id) (s : State) → Agrees s (Commands.remove i s) (reply (remove i) (erase s))
 unfolding Commands.remove reply judged its erase
-removed i s = on-device i s (λ x. cond (s .device x .isOpen) (refused 16) (granted (withDevice x noDevice s))) u (at (placeOf i (s .device)))
+removed i s = on-device i s (λ x. cond (s .device x .isOpen) (refused Ebusy) (granted (withDevice x noDevice s))) u (at (slotOf i (s .device)))
   where
     done : ℕ → Reply
     done x = record { errno = 0; next = put x (bare false nobody) (erase s) }
 
     u : ℕ → Reply
-    u x = cond (erase s .device x .isOpen) (record { errno = 16; next = erase s }) (done x)
+    u x = cond (erase s .device x .isOpen) (record { errno = numberOf Ebusy; next = erase s }) (done x)
 
-    at : (x : ℕ) → Agrees s (cond (s .device x .isOpen) (refused 16) (granted (withDevice x noDevice s))) (cond (s .device x .isOpen) (record { errno = 16; next = erase s }) (done x))
+    at : (x : ℕ) → Agrees s (cond (s .device x .isOpen) (refused Ebusy) (granted (withDevice x noDevice s))) (cond (s .device x .isOpen) (record { errno = numberOf Ebusy; next = erase s }) (done x))
     at x =
-        same-way s (s .device x .isOpen) (refused 16) (granted (withDevice x noDevice s)) (record { errno = 16; next = erase s }) (done x) (refuses s 16)
+        same-way s (s .device x .isOpen) (refused Ebusy) (granted (withDevice x noDevice s)) (record { errno = numberOf Ebusy; next = erase s }) (done x) (refuses s Ebusy)
         (grants s (withDevice x noDevice s) (put x (bare false nobody) (erase s)) (put-same x (bare false nobody) noDevice s bare-none))
 
 marked-open : (o : Bool) (w : Device) → marked o w ≡ withOpen o w
@@ -223,24 +226,24 @@ module _ (i : Id) (s : State) (o : Bool) where
 opened : (i : Id) (s : State) → Agrees s (Commands.openDevice i s) (reply (openIt i) (erase s))
 unfolding Commands.openDevice reply judged its erase
 opened i s =
-    on-device i s (λ x. cond (s .device x .isOpen) (refused 16) (granted (withDevice x (withOpen true (s .device x)) s)))
-    (λ x. cond (s .device x .isOpen) (record { errno = 16; next = erase s }) (record { errno = 0; next = put x (marked true (s .device x)) (erase s) }))
-    (at (placeOf i (s .device)))
+    on-device i s (λ x. cond (s .device x .isOpen) (refused Ebusy) (granted (withDevice x (withOpen true (s .device x)) s)))
+    (λ x. cond (s .device x .isOpen) (record { errno = numberOf Ebusy; next = erase s }) (record { errno = 0; next = put x (marked true (s .device x)) (erase s) }))
+    (at (slotOf i (s .device)))
   where
-    at : (x : ℕ) → Agrees s (cond (s .device x .isOpen) (refused 16) (granted (withDevice x (withOpen true (s .device x)) s)))
-        (cond (s .device x .isOpen) (record { errno = 16; next = erase s }) (record { errno = 0; next = put x (marked true (s .device x)) (erase s) }))
-    at x = same-way s (s .device x .isOpen) _ _ _ _ (refuses s 16) (set-open i s true x)
+    at : (x : ℕ) → Agrees s (cond (s .device x .isOpen) (refused Ebusy) (granted (withDevice x (withOpen true (s .device x)) s)))
+        (cond (s .device x .isOpen) (record { errno = numberOf Ebusy; next = erase s }) (record { errno = 0; next = put x (marked true (s .device x)) (erase s) }))
+    at x = same-way s (s .device x .isOpen) _ _ _ _ (refuses s Ebusy) (set-open i s true x)
 
 closed : (i : Id) (s : State) → Agrees s (Commands.closeDevice i s) (reply (closeIt i) (erase s))
 unfolding Commands.closeDevice reply judged its erase
 closed i s =
-    on-device i s (λ x. cond (s .device x .isOpen) (granted (withDevice x (withOpen false (s .device x)) s)) (refused 22))
-    (λ x. cond (not (s .device x .isOpen)) (record { errno = 22; next = erase s }) (record { errno = 0; next = put x (marked false (s .device x)) (erase s) }))
-    (at (placeOf i (s .device)))
+    on-device i s (λ x. cond (s .device x .isOpen) (granted (withDevice x (withOpen false (s .device x)) s)) (refused Einval))
+    (λ x. cond (not (s .device x .isOpen)) (record { errno = numberOf Einval; next = erase s }) (record { errno = 0; next = put x (marked false (s .device x)) (erase s) }))
+    (at (slotOf i (s .device)))
   where
-    at : (x : ℕ) → Agrees s (cond (s .device x .isOpen) (granted (withDevice x (withOpen false (s .device x)) s)) (refused 22))
-        (cond (not (s .device x .isOpen)) (record { errno = 22; next = erase s }) (record { errno = 0; next = put x (marked false (s .device x)) (erase s) }))
-    at x = other-way s (s .device x .isOpen) _ _ _ _ (set-open i s false x) (refuses s 22)
+    at : (x : ℕ) → Agrees s (cond (s .device x .isOpen) (granted (withDevice x (withOpen false (s .device x)) s)) (refused Einval))
+        (cond (not (s .device x .isOpen)) (record { errno = numberOf Einval; next = erase s }) (record { errno = 0; next = put x (marked false (s .device x)) (erase s) }))
+    at x = other-way s (s .device x .isOpen) _ _ _ _ (set-open i s false x) (refuses s Einval)
 
 -- ---- text, limits and bits
 
@@ -265,13 +268,13 @@ highest-limit Control s = refl
 
 -- a number within its limit
 within : (k : Kind) (n : ℕ) (s : State) (x : Outcome State) (u : Reply) → Agrees s x u
-    → Agrees s (cond (leb n (limitOf k (s .limits))) x (refused 19)) (cond (ltb (highest k (erase s)) n) (record { errno = 19; next = erase s }) u)
+    → Agrees s (cond (leb n (limitOf k (s .limits))) x (refused Enodev)) (cond (ltb (highest k (erase s)) n) (record { errno = numberOf Enodev; next = erase s }) u)
 within k n s x u h =
-    subst (λ (l : ℕ). Agrees s (cond (leb n (limitOf k (s .limits))) x (refused 19)) (cond (ltb l n) (record { errno = 19; next = erase s }) u))
+    subst (λ (l : ℕ). Agrees s (cond (leb n (limitOf k (s .limits))) x (refused Enodev)) (cond (ltb l n) (record { errno = numberOf Enodev; next = erase s }) u))
     (sym (highest-limit k s))
-    (subst (λ (b : Bool). Agrees s (cond (leb n (limitOf k (s .limits))) x (refused 19)) (cond b (record { errno = 19; next = erase s }) u))
+    (subst (λ (b : Bool). Agrees s (cond (leb n (limitOf k (s .limits))) x (refused Enodev)) (cond b (record { errno = numberOf Enodev; next = erase s }) u))
     (sym (above-not n (limitOf k (s .limits))))
-    (other-way s (leb n (limitOf k (s .limits))) x (refused 19) u (record { errno = 19; next = erase s }) h (refuses s 19)))
+    (other-way s (leb n (limitOf k (s .limits))) x (refused Enodev) u (record { errno = numberOf Enodev; next = erase s }) h (refuses s Enodev)))
 
 turned-on : (n : ℕ) (b : Bits) → turned true n b ≡ included n b
 unfolding turned included
@@ -302,19 +305,19 @@ turned-same o k n x b s e = put-same x (turn o k n (s .device x)) (withNumbers k
 
 unassigned : (k : Kind) (i : Id) (text : List ℕ) (s : State) → Agrees s (Commands.unassign k i text s) (reply (unassign k i text) (erase s))
 unfolding Commands.unassign reply judged its erase
-unassigned k i text s = with-text s (numberText text) (λ n. onDevice i s (next n)) _ (λ n. on-device i s (next n) (u n) (at n (placeOf i (s .device))))
+unassigned k i text s = with-text s (numberText text) (λ n. onDevice i s (next n)) _ (λ n. on-device i s (next n) (u n) (at n (slotOf i (s .device))))
   where
     t : ℕ → ℕ → State
     t n x = withDevice x (withNumbers k (excluded n (numbersOf k (s .device x))) (s .device x)) s
 
     next : ℕ → ℕ → Outcome State
-    next n x = cond (leb n (limitOf k (s .limits))) (granted (t n x)) (refused 19)
+    next n x = cond (leb n (limitOf k (s .limits))) (granted (t n x)) (refused Enodev)
 
     done : ℕ → ℕ → Reply
     done n x = record { errno = 0; next = put x (turn false k n (erase s .device x)) (erase s) }
 
     u : ℕ → ℕ → Reply
-    u n x = cond (ltb (highest k (erase s)) n) (record { errno = 19; next = erase s }) (done n x)
+    u n x = cond (ltb (highest k (erase s)) n) (record { errno = numberOf Enodev; next = erase s }) (done n x)
 
     at : (n x : ℕ) → Agrees s (next n x) (u n x)
     at n x =
@@ -389,7 +392,7 @@ module _ (k : Kind) (n x : ℕ) (s : State) where
   done = record { errno = 0; next = put x (turn true k n (s .device x)) (erase s) }
 
   checked : Reply
-  checked = cond hit99 (record { errno = 99; next = erase s }) (cond hit98 (record { errno = 98; next = erase s }) done)
+  checked = cond hit99 (record { errno = numberOf Eaddrnotavail; next = erase s }) (cond hit98 (record { errno = numberOf Eaddrinuse; next = erase s }) done)
 
   same99 : numbersOf k (s .device x) n ≡ false → someBelow queues (both (paired k n (s .device x)) (Queues.reserved (s .host))) ≡ hit99
   unfolding hit99 both Queues.reserved inProduct reserved erase
@@ -408,57 +411,57 @@ module _ (k : Kind) (n x : ℕ) (s : State) where
       ∙ some-pair (λ a d. new k n (s .device x) a d && elsewhere a d)
     where
       elsewhere : ℕ → ℕ → Bool
-      elsewhere a d = someBelow places (λ j. not (eqb j x) && (s .device j .present && (s .device j .adapters a && s .device j .domains d)))
+      elsewhere a d = someBelow slots (λ j. not (eqb j x) && (s .device j .present && (s .device j .adapters a && s .device j .domains d)))
 
-  at-place : (b : Bool) → numbersOf k (s .device x) n ≡ b
+  at-slot : (b : Bool) → numbersOf k (s .device x) n ≡ b
       → Agrees s
       (cond b (granted s) (adding (paired k n (s .device x)) x s (withDevice x (withNumbers k (included n (numbersOf k (s .device x))) (s .device x)) s)))
       checked
   unfolding checked done adding hit99 hit98
-  at-place true e =
+  at-slot true e =
       let a : hit99 ≡ false = no-pair (λ a d. new k n (s .device x) a d && reserved (erase s) a d) (λ a d. ap (λ (b : Bool). b && reserved (erase s) a d) (new-none k n (s .device x) a d e)) in
       let b : hit98 ≡ false = no-pair (λ a d. new k n (s .device x) a d && anotherHolds (erase s) x a d) (λ a d. ap (λ (b : Bool). b && anotherHolds (erase s) x a d) (new-none k n (s .device x) a d e)) in
-      subst (λ (c : Bool). Agrees s (granted s) (cond c (record { errno = 99; next = erase s }) (cond hit98 (record { errno = 98; next = erase s }) done))) (sym a)
-      (subst (λ (c : Bool). Agrees s (granted s) (cond c (record { errno = 98; next = erase s }) done)) (sym b)
+      subst (λ (c : Bool). Agrees s (granted s) (cond c (record { errno = numberOf Eaddrnotavail; next = erase s }) (cond hit98 (record { errno = numberOf Eaddrinuse; next = erase s }) done))) (sym a)
+      (subst (λ (c : Bool). Agrees s (granted s) (cond c (record { errno = numberOf Eaddrinuse; next = erase s }) done)) (sym b)
       (grants s s (put x (turn true k n (s .device x)) (erase s))
       (put-back x (turn true k n (s .device x)) s
       (turn-as true k n (s .device x) (numbersOf k (s .device x)) (set-already n (numbersOf k (s .device x)) e) ∙ same-numbers k (s .device x)))))
-  at-place false e =
+  at-slot false e =
       let t = withDevice x (withNumbers k (included n (numbersOf k (s .device x))) (s .device x)) s in
-      subst (λ (c : Bool). Agrees s (cond c (refused 99) (cond (someBelow queues (both (paired k n (s .device x)) (assignedElsewhere x (s .device)))) (refused 98) (granted t))) checked)
+      subst (λ (c : Bool). Agrees s (cond c (refused Eaddrnotavail) (cond (someBelow queues (both (paired k n (s .device x)) (assignedElsewhere x (s .device)))) (refused Eaddrinuse) (granted t))) checked)
       (sym (same99 e))
-      (same-way s hit99 (refused 99) (cond (someBelow queues (both (paired k n (s .device x)) (assignedElsewhere x (s .device)))) (refused 98) (granted t))
-      (record { errno = 99; next = erase s }) (cond hit98 (record { errno = 98; next = erase s }) done) (refuses s 99)
-      (subst (λ (c : Bool). Agrees s (cond c (refused 98) (granted t)) (cond hit98 (record { errno = 98; next = erase s }) done)) (sym (same98 e))
-      (same-way s hit98 (refused 98) (granted t) (record { errno = 98; next = erase s }) done (refuses s 98)
+      (same-way s hit99 (refused Eaddrnotavail) (cond (someBelow queues (both (paired k n (s .device x)) (assignedElsewhere x (s .device)))) (refused Eaddrinuse) (granted t))
+      (record { errno = numberOf Eaddrnotavail; next = erase s }) (cond hit98 (record { errno = numberOf Eaddrinuse; next = erase s }) done) (refuses s Eaddrnotavail)
+      (subst (λ (c : Bool). Agrees s (cond c (refused Eaddrinuse) (granted t)) (cond hit98 (record { errno = numberOf Eaddrinuse; next = erase s }) done)) (sym (same98 e))
+      (same-way s hit98 (refused Eaddrinuse) (granted t) (record { errno = numberOf Eaddrinuse; next = erase s }) done (refuses s Eaddrinuse)
       (grants s t (put x (turn true k n (s .device x)) (erase s))
       (turned-same true k n x (included n (numbersOf k (s .device x))) s (turned-on n (numbersOf k (s .device x))))))))
 
 assigned-same : (k : Kind) (i : Id) (text : List ℕ) (s : State) → Agrees s (Commands.assign k i text s) (reply (assign k i text) (erase s))
 unfolding Commands.assign assignAt reply judged its erase checked done hit99 hit98
-assigned-same k i text s = with-text s (numberText text) (λ n. onDevice i s (next n)) _ (λ n. on-device i s (next n) (u n) (at n (placeOf i (s .device))))
+assigned-same k i text s = with-text s (numberText text) (λ n. onDevice i s (next n)) _ (λ n. on-device i s (next n) (u n) (at n (slotOf i (s .device))))
   where
     next : ℕ → ℕ → Outcome State
-    next n x = cond (leb n (limitOf k (s .limits))) (assignAt k n x s) (refused 19)
+    next n x = cond (leb n (limitOf k (s .limits))) (assignAt k n x s) (refused Enodev)
 
     u : ℕ → ℕ → Reply
-    u n x = cond (ltb (highest k (erase s)) n) (record { errno = 19; next = erase s }) (checked k n x s)
+    u n x = cond (ltb (highest k (erase s)) n) (record { errno = numberOf Enodev; next = erase s }) (checked k n x s)
 
     at : (n x : ℕ) → Agrees s (next n x) (u n x)
-    at n x = within k n s (assignAt k n x s) (checked k n x s) (at-place k n x s (numbersOf k (s .device x) n) refl)
+    at n x = within k n s (assignAt k n x s) (checked k n x s) (at-slot k n x s (numbersOf k (s .device x) n) refl)
 
 -- ---- the host's masks and the configuration
 
 masked-same : (ap aq : Bits) (s : State)
     → Agrees s (setHost (record { apmask = ap; aqmask = aq }) s)
-    (cond (somePair (λ a d. (ap a && aq d) && someHolds (erase s) a d)) (record { errno = 98; next = erase s }) (record { errno = 0; next = masked ap aq (erase s) }))
+    (cond (somePair (λ a d. (ap a && aq d) && someHolds (erase s) a d)) (record { errno = numberOf Eaddrinuse; next = erase s }) (record { errno = 0; next = masked ap aq (erase s) }))
 unfolding setHost both Queues.reserved inProduct assigned product someHolds holds erase masked withHost
 masked-same ap aq s =
-    subst (λ (b : Bool). Agrees s (cond b (refused 98) (granted (withHost (record { apmask = ap; aqmask = aq }) s)))
-    (cond (somePair (λ a d. (ap a && aq d) && someHolds (erase s) a d)) (record { errno = 98; next = erase s }) (record { errno = 0; next = masked ap aq (erase s) })))
+    subst (λ (b : Bool). Agrees s (cond b (refused Eaddrinuse) (granted (withHost (record { apmask = ap; aqmask = aq }) s)))
+    (cond (somePair (λ a d. (ap a && aq d) && someHolds (erase s) a d)) (record { errno = numberOf Eaddrinuse; next = erase s }) (record { errno = 0; next = masked ap aq (erase s) })))
     (sym (some-pair (λ a d. (ap a && aq d) && someHolds (erase s) a d)))
-    (same-way s (somePair (λ a d. (ap a && aq d) && someHolds (erase s) a d)) (refused 98) (granted (withHost (record { apmask = ap; aqmask = aq }) s))
-    (record { errno = 98; next = erase s }) (record { errno = 0; next = masked ap aq (erase s) }) (refuses s 98)
+    (same-way s (somePair (λ a d. (ap a && aq d) && someHolds (erase s) a d)) (refused Eaddrinuse) (granted (withHost (record { apmask = ap; aqmask = aq }) s))
+    (record { errno = numberOf Eaddrinuse; next = erase s }) (record { errno = 0; next = masked ap aq (erase s) }) (refuses s Eaddrinuse)
     (grants s (withHost (record { apmask = ap; aqmask = aq }) s) (masked ap aq (erase s)) refl))
 
 apmask-same : (text : List ℕ) (s : State) → Agrees s (Commands.setApmask text s) (reply (setApmask text) (erase s))
@@ -477,8 +480,8 @@ above-same limit b =
     some-cong 256 (λ i. b i && (ltb limit i && ltb i 256)) (λ i. b i && ltb limit i)
     (λ i h. ap (λ (x : Bool). b i && (ltb limit i && x)) (lt-ltb i 256 h) ∙ ap (λ (x : Bool). b i && x) (mathlib.Core.Bool.and-true (ltb limit i)))
 
-three-ways : (s : State) (x y z : Bool) (g : Outcome State) (u d : Reply) → Agrees s (refused 19) u → Agrees s g d
-    → Agrees s (cond (x || y || z) (refused 19) g) (cond x u (cond y u (cond z u d)))
+three-ways : (s : State) (x y z : Bool) (g : Outcome State) (u d : Reply) → Agrees s (refused Enodev) u → Agrees s g d
+    → Agrees s (cond (x || y || z) (refused Enodev) g) (cond x u (cond y u (cond z u d)))
 three-ways s true y z g u d p q = p
 three-ways s false true z g u d p q = p
 three-ways s false false true g u d p q = p
@@ -491,11 +494,11 @@ given-same c s = refl
 configured-same : (c : Configuration) (s : State) → Agrees s (Commands.configure c s) (reply (configure c) (erase s))
 unfolding Commands.configure reply judged beyondLimits erase
 configured-same c s =
-    subst (λ (b : Bool). Agrees s (cond (b || y || z) (refused 19) g) (cond (bitAbove (s .limits .adapter) (bits (c .adapters))) u (cond y′ u (cond z′ u d))))
+    subst (λ (b : Bool). Agrees s (cond (b || y || z) (refused Enodev) g) (cond (bitAbove (s .limits .adapter) (bits (c .adapters))) u (cond y′ u (cond z′ u d))))
     (sym (above-same (s .limits .adapter) (bits (c .adapters))))
-    (subst (λ (b : Bool). Agrees s (cond (x′ || b || z) (refused 19) g) (cond x′ u (cond y′ u (cond z′ u d)))) (sym (above-same (s .limits .domain) (bits (c .domains))))
-    (subst (λ (b : Bool). Agrees s (cond (x′ || y′ || b) (refused 19) g) (cond x′ u (cond y′ u (cond z′ u d)))) (sym (above-same (s .limits .domain) (bits (c .controls))))
-    (three-ways s x′ y′ z′ g u d (refuses s 19) last)))
+    (subst (λ (b : Bool). Agrees s (cond (x′ || b || z) (refused Enodev) g) (cond x′ u (cond y′ u (cond z′ u d)))) (sym (above-same (s .limits .domain) (bits (c .domains))))
+    (subst (λ (b : Bool). Agrees s (cond (x′ || y′ || b) (refused Enodev) g) (cond x′ u (cond y′ u (cond z′ u d)))) (sym (above-same (s .limits .domain) (bits (c .controls))))
+    (three-ways s x′ y′ z′ g u d (refuses s Enodev) last)))
   where
     x′ : Bool
     x′ = bitAbove (s .limits .adapter) (bits (c .adapters))
@@ -516,7 +519,7 @@ configured-same c s =
     g = granted (withConfig (stored c) s)
 
     u : Reply
-    u = record { errno = 19; next = erase s }
+    u = record { errno = numberOf Enodev; next = erase s }
 
     d : Reply
     d = record { errno = 0; next = given c (erase s) }

@@ -5,7 +5,7 @@ use mathlib.Core.Bool.{true, false, true≢false}
 use mathlib.Core.List.{List}
 use mathlib.Core.Path.{_≡_, refl, sym, ap, subst, _∙_}
 use Rattle.rules.specs.declared.Driver.the-variants.{Host}
-use Rattle.rules.specs.State.{Limits, State, fresh, places, queues}
+use Rattle.rules.specs.State.{Limits, State, fresh, slots, queues}
 use Rattle.rules.specs.Queues.{passed, usable}
 use Rattle.model.specs.Steps.{Step, commandsOf, afterAll, answers}
 use Rattle.model.specs.Model.{Model, start, replies, kept}

@@ -8,7 +8,9 @@ use mathlib.Core.List.{List, [], _∷_}
 use mathlib.Core.Path.{_≡_, refl, sym, ap, subst, _∙_}
 use lib.Dec.{eqb, ltb, leb, lit<}
 use borrow.Author.Tests.{ltb-true, eqb-true, eqb-false, not-true, ne-eqb}
+use Rattle.errno.specs.declared.Errno.{Errno}
 use Rattle.errno.specs.Outcome.{Outcome, granted, refused}
+use Rattle.errno.specs.declared.Errno.the-variants.{Enoent, Ebusy, Eexist, Enodev, Einval, Enospc, Eaddrinuse, Eaddrnotavail}
 use Rattle.mask.specs.Bits.{Bits, someBelow, both, included, excluded, noBits}
 use Rattle.mask.proofs.Laws.{some-intro, some-none}
 use Rattle.number.specs.Text.{numberText}
@@ -18,23 +20,23 @@ use Rattle.rules.specs.declared.Driver.the-variants.{Unbound, Host, Passthrough
 use Rattle.rules.specs.declared.Id.{Id}
 use Rattle.rules.specs.declared.Kind.{Kind}
 use Rattle.rules.specs.declared.Kind.the-variants.{Adapter, Domain, Control}
-use Rattle.rules.specs.State.{Limits, HostMasks, Device, State, places, queues, inProduct, noDevice, fresh}
+use Rattle.rules.specs.State.{Limits, HostMasks, Device, State, slots, queues, inProduct, noDevice, fresh}
 use Rattle.rules.specs.Queues as Queues
 use Rattle.rules.specs.Queues.{passed, guestDomains, guestAdapters, usable}
 use Rattle.rules.specs.Commands as Commands
-use Rattle.rules.specs.Commands.{stateAfter, placeOf, freePlace, withDevice, withHost, withConfig, onDevice, reading, newDevice, withOpen, numbersOf, withNumbers, limitOf, paired, adds, adding, assignAt, setHost, stored, beyondLimits, product, assignedElsewhere}
+use Rattle.rules.specs.Commands.{stateAfter, slotOf, freeSlot, withDevice, withHost, withConfig, onDevice, reading, newDevice, withOpen, numbersOf, withNumbers, limitOf, paired, adds, adding, assignAt, setHost, stored, beyondLimits, product, assignedElsewhere}
 use Rattle.rules.proofs.Products.{in-both, product-apid, product-apqi}
-use Rattle.rules.proofs.Refusals.{place-present, adds-paired}
+use Rattle.rules.proofs.Refusals.{slot-present, adds-paired}
 use Rattle.model.specs.Steps.{Command, create, remove, openIt, closeIt, assign, unassign, setApmask, setAqmask, configure, Step, command, move, rule, after, afterAll, queueOf}
 
 -- the products of two devices have no queue in common, and only a device that is there is open
 pub record Exclusive (s : State) : Type 0 where
-  pub apart : (p j q : ℕ) → p < places → j < places → q < queues → product (s .device p) q ≡ true → product (s .device j) q ≡ true → p ≡ j
+  pub apart : (p j q : ℕ) → p < slots → j < slots → q < queues → product (s .device p) q ≡ true → product (s .device j) q ≡ true → p ≡ j
   pub there : (p : ℕ) → s .device p .isOpen ≡ true → s .device p .present ≡ true
 
 -- ---- putting a device
 
--- the device at a place, after one was put
+-- the device at a slot, after one was put
 device-at : (x : ℕ) (v : Device) (s : State) (j : ℕ) (P : Device → Type 0) → (j ≡ x → P v) → ((j ≡ x → ⊥) → P (s .device j)) → P (withDevice x v s .device j)
 unfolding withDevice
 device-at x v s j P here other = go (eqb j x) refl
@@ -44,11 +46,11 @@ device-at x v s j P here other = go (eqb j x) refl
     go false e = other (eqb-false j x e)
 
 put-exclusive : (x : ℕ) (v : Device) (s : State) → Exclusive s → (v .isOpen ≡ true → v .present ≡ true)
-    → ((j q : ℕ) → j < places → q < queues → (j ≡ x → ⊥) → product v q ≡ true → product (s .device j) q ≡ true → ⊥)
+    → ((j q : ℕ) → j < slots → q < queues → (j ≡ x → ⊥) → product v q ≡ true → product (s .device j) q ≡ true → ⊥)
     → Exclusive (withDevice x v s)
 put-exclusive x v s h o clash = record { apart = apart; there = λ p. device-at x v s p (λ w. w .isOpen ≡ true → w .present ≡ true) (λ e. o) (λ n. h .there p) }
   where
-    apart : (p j q : ℕ) → p < places → j < places → q < queues → product (withDevice x v s .device p) q ≡ true → product (withDevice x v s .device j) q ≡ true → p ≡ j
+    apart : (p j q : ℕ) → p < slots → j < slots → q < queues → product (withDevice x v s .device p) q ≡ true → product (withDevice x v s .device j) q ≡ true → p ≡ j
     apart p j q lp lj lq =
         device-at x v s p (λ w. product w q ≡ true → product (withDevice x v s .device j) q ≡ true → p ≡ j)
         (λ ep a. device-at x v s j (λ w. product w q ≡ true → p ≡ j) (λ ej b. ep ∙ sym ej) (λ nj b. absurd (clash j q lj lq nj a b)))
@@ -65,14 +67,14 @@ no-product v q e h =
     true≢false (sym (and-eq-true-iff (v .adapters (q / 256)) (v .domains (q % 256)) .0 (and-eq-true-iff (v .present) (v .adapters (q / 256) && v .domains (q % 256)) .0 h .1) .0)
     ∙ ap (λ (b : Bits). b (q / 256)) e ∙ nothing (q / 256))
 
-put-less : (x : ℕ) (v : Device) (s : State) → Exclusive s → x < places → (v .isOpen ≡ true → v .present ≡ true)
+put-less : (x : ℕ) (v : Device) (s : State) → Exclusive s → x < slots → (v .isOpen ≡ true → v .present ≡ true)
     → ((q : ℕ) → product v q ≡ true → product (s .device x) q ≡ true) → Exclusive (withDevice x v s)
 put-less x v s h l o less = put-exclusive x v s h o (λ j q lj lq n a b. n (h .apart j x q lj l lq b (less q a)))
 
 -- ---- what holds after an outcome, whichever way it goes
 
 module _ (s : State) (h : Exclusive s) where
-  refuse : (e : ℕ) → Exclusive (stateAfter s (refused e))
+  refuse : (e : Errno) → Exclusive (stateAfter s (refused e))
   unfolding stateAfter
   refuse e = h
 
@@ -84,12 +86,12 @@ module _ (s : State) (h : Exclusive s) where
   either-way true x y f g = f refl
   either-way false x y f g = g refl
 
-  on-device : (i : Id) (next : ℕ → Outcome State) → (placeOf i (s .device) < places → Exclusive (stateAfter s (next (placeOf i (s .device)))))
+  on-device : (i : Id) (next : ℕ → Outcome State) → (slotOf i (s .device) < slots → Exclusive (stateAfter s (next (slotOf i (s .device)))))
       → Exclusive (stateAfter s (onDevice i s next))
   unfolding onDevice
   on-device i next f =
-      either-way (ltb (placeOf i (s .device)) places) (next (placeOf i (s .device))) (refused 2)
-      (λ e. f (ltb-true (placeOf i (s .device)) places e)) (λ e. refuse 2)
+      either-way (ltb (slotOf i (s .device)) slots) (next (slotOf i (s .device))) (refused Enoent)
+      (λ e. f (ltb-true (slotOf i (s .device)) slots e)) (λ e. refuse Enoent)
 
   with-text : {A : Type 0} (o : Outcome A) (next : A → Outcome State) → ((a : A) → Exclusive (stateAfter s (next a))) → Exclusive (stateAfter s (reading o next))
   unfolding reading
@@ -104,35 +106,35 @@ module _ (s : State) (h : Exclusive s) where
   created : (i : Id) → Exclusive (stateAfter s (Commands.create i s))
   unfolding Commands.create newDevice
   created i =
-      either-way (ltb (placeOf i (s .device)) places) _ _ (λ e. refuse 17)
-      (λ e. either-way (ltb (freePlace (s .device)) places) _ _
-      (λ f. grant (withDevice (freePlace (s .device)) (newDevice i) s) (bare (freePlace (s .device)) (newDevice i) refl refl)) (λ f. refuse 28))
+      either-way (ltb (slotOf i (s .device)) slots) _ _ (λ e. refuse Eexist)
+      (λ e. either-way (ltb (freeSlot (s .device)) slots) _ _
+      (λ f. grant (withDevice (freeSlot (s .device)) (newDevice i) s) (bare (freeSlot (s .device)) (newDevice i) refl refl)) (λ f. refuse Enospc))
 
   removed : (i : Id) → Exclusive (stateAfter s (Commands.remove i s))
   unfolding Commands.remove noDevice
   removed i =
       on-device i _
-      (λ l. either-way (s .device (placeOf i (s .device)) .isOpen) _ _ (λ e. refuse 16)
-      (λ e. grant (withDevice (placeOf i (s .device)) noDevice s) (bare (placeOf i (s .device)) noDevice refl refl)))
+      (λ l. either-way (s .device (slotOf i (s .device)) .isOpen) _ _ (λ e. refuse Ebusy)
+      (λ e. grant (withDevice (slotOf i (s .device)) noDevice s) (bare (slotOf i (s .device)) noDevice refl refl)))
 
-  marked : (i : Id) (o : Bool) → placeOf i (s .device) < places → Exclusive (withDevice (placeOf i (s .device)) (withOpen o (s .device (placeOf i (s .device)))) s)
+  marked : (i : Id) (o : Bool) → slotOf i (s .device) < slots → Exclusive (withDevice (slotOf i (s .device)) (withOpen o (s .device (slotOf i (s .device)))) s)
   unfolding withOpen product
   marked i o l =
-      put-less (placeOf i (s .device)) (withOpen o (s .device (placeOf i (s .device)))) s h l (λ t. place-present i (s .device) l) (λ q a. a)
+      put-less (slotOf i (s .device)) (withOpen o (s .device (slotOf i (s .device)))) s h l (λ t. slot-present i (s .device) l) (λ q a. a)
 
   opened : (i : Id) → Exclusive (stateAfter s (Commands.openDevice i s))
   unfolding Commands.openDevice
   opened i =
       on-device i _
-      (λ l. either-way (s .device (placeOf i (s .device)) .isOpen) _ _ (λ e. refuse 16)
-      (λ e. grant (withDevice (placeOf i (s .device)) (withOpen true (s .device (placeOf i (s .device)))) s) (marked i true l)))
+      (λ l. either-way (s .device (slotOf i (s .device)) .isOpen) _ _ (λ e. refuse Ebusy)
+      (λ e. grant (withDevice (slotOf i (s .device)) (withOpen true (s .device (slotOf i (s .device)))) s) (marked i true l)))
 
   closed : (i : Id) → Exclusive (stateAfter s (Commands.closeDevice i s))
   unfolding Commands.closeDevice
   closed i =
       on-device i _
-      (λ l. either-way (s .device (placeOf i (s .device)) .isOpen) _ _
-      (λ e. grant (withDevice (placeOf i (s .device)) (withOpen false (s .device (placeOf i (s .device)))) s) (marked i false l)) (λ e. refuse 22))
+      (λ l. either-way (s .device (slotOf i (s .device)) .isOpen) _ _
+      (λ e. grant (withDevice (slotOf i (s .device)) (withOpen false (s .device (slotOf i (s .device)))) s) (marked i false l)) (λ e. refuse Einval))
 
 -- the flags of a device do not change with its numbers
 same-flags : (k : Kind) (m : Bits) (v : Device) → (v .isOpen ≡ true → v .present ≡ true) → withNumbers k m v .isOpen ≡ true → withNumbers k m v .present ≡ true
@@ -168,29 +170,29 @@ module _ (s : State) (h : Exclusive s) where
       with-text s h (numberText text) _
       (λ n. on-device s h i _
       (λ l. either-way s h (leb n (limitOf k (s .limits))) _ _
-      (λ e. grant s h (withDevice (placeOf i (s .device)) (withNumbers k (excluded n (numbersOf k (s .device (placeOf i (s .device))))) (s .device (placeOf i (s .device)))) s)
-      (put-less (placeOf i (s .device)) (withNumbers k (excluded n (numbersOf k (s .device (placeOf i (s .device))))) (s .device (placeOf i (s .device)))) s h l
-      (same-flags k (excluded n (numbersOf k (s .device (placeOf i (s .device))))) (s .device (placeOf i (s .device))) (h .there (placeOf i (s .device))))
-      (fewer k n (s .device (placeOf i (s .device))))))
-      (λ e. refuse s h 19)))
+      (λ e. grant s h (withDevice (slotOf i (s .device)) (withNumbers k (excluded n (numbersOf k (s .device (slotOf i (s .device))))) (s .device (slotOf i (s .device)))) s)
+      (put-less (slotOf i (s .device)) (withNumbers k (excluded n (numbersOf k (s .device (slotOf i (s .device))))) (s .device (slotOf i (s .device)))) s h l
+      (same-flags k (excluded n (numbersOf k (s .device (slotOf i (s .device))))) (s .device (slotOf i (s .device))) (h .there (slotOf i (s .device))))
+      (fewer k n (s .device (slotOf i (s .device))))))
+      (λ e. refuse s h Enodev)))
 
   -- a number that is assigned past the check for EADDRINUSE
-  module _ (k : Kind) (n p : ℕ) (lp : p < places) (here : s .device p .present ≡ true) (new : numbersOf k (s .device p) n ≡ false)
+  module _ (k : Kind) (n p : ℕ) (lp : p < slots) (here : s .device p .present ≡ true) (new : numbersOf k (s .device p) n ≡ false)
       (free : someBelow queues (both (paired k n (s .device p)) (assignedElsewhere p (s .device))) ≡ false) where
     v′ : Device
     v′ = withNumbers k (included n (numbersOf k (s .device p))) (s .device p)
 
-    elsewhere : (j q : ℕ) → j < places → (j ≡ p → ⊥) → product (s .device j) q ≡ true → assignedElsewhere p (s .device) q ≡ true
+    elsewhere : (j q : ℕ) → j < slots → (j ≡ p → ⊥) → product (s .device j) q ≡ true → assignedElsewhere p (s .device) q ≡ true
     unfolding assignedElsewhere
     elsewhere j q lj nj b =
-        some-intro places (λ x. not (eqb x p) && product (s .device x) q) j lj
+        some-intro slots (λ x. not (eqb x p) && product (s .device x) q) j lj
         (and-eq-true-iff (not (eqb j p)) (product (s .device j) q) .1 (ap not (ne-eqb j p nj), b))
 
     new-one : (q : ℕ) → product v′ q ≡ true → product (s .device p) q ≡ false → adds k n (s .device p) q ≡ true
     unfolding adds v′
     new-one q a e = and-eq-true-iff (product v′ q) (not (product (s .device p) q)) .1 (a, ap not e)
 
-    clash : (j q : ℕ) → j < places → q < queues → (j ≡ p → ⊥) → product v′ q ≡ true → product (s .device j) q ≡ true → ⊥
+    clash : (j q : ℕ) → j < slots → q < queues → (j ≡ p → ⊥) → product v′ q ≡ true → product (s .device j) q ≡ true → ⊥
     clash j q lj lq nj a b = go (product (s .device p) q) refl
       where
         go : (x : Bool) → product (s .device p) q ≡ x → ⊥
@@ -206,12 +208,12 @@ module _ (s : State) (h : Exclusive s) where
     unfolding v′
     put-new = put-exclusive p v′ s h (same-flags k (included n (numbersOf k (s .device p))) (s .device p) (h .there p)) clash
 
-  assigned-at : (k : Kind) (n p : ℕ) → p < places → s .device p .present ≡ true → Exclusive (stateAfter s (assignAt k n p s))
+  assigned-at : (k : Kind) (n p : ℕ) → p < slots → s .device p .present ≡ true → Exclusive (stateAfter s (assignAt k n p s))
   unfolding assignAt adding v′
   assigned-at k n p lp here =
       either-way s h (numbersOf k (s .device p) n) _ _ (λ e. grant s h s h)
-      (λ new. either-way s h (someBelow queues (both (paired k n (s .device p)) (Queues.reserved (s .host)))) _ _ (λ e. refuse s h 99)
-      (λ e. either-way s h (someBelow queues (both (paired k n (s .device p)) (assignedElsewhere p (s .device)))) _ _ (λ f. refuse s h 98)
+      (λ new. either-way s h (someBelow queues (both (paired k n (s .device p)) (Queues.reserved (s .host)))) _ _ (λ e. refuse s h Eaddrnotavail)
+      (λ e. either-way s h (someBelow queues (both (paired k n (s .device p)) (assignedElsewhere p (s .device)))) _ _ (λ f. refuse s h Eaddrinuse)
       (λ free. grant s h (withDevice p (withNumbers k (included n (numbersOf k (s .device p))) (s .device p)) s) (put-new k n p lp here new free))))
 
   assigned : (k : Kind) (i : Id) (text : List ℕ) → Exclusive (stateAfter s (Commands.assign k i text s))
@@ -219,12 +221,12 @@ module _ (s : State) (h : Exclusive s) where
   assigned k i text =
       with-text s h (numberText text) _
       (λ n. on-device s h i _
-      (λ l. either-way s h (leb n (limitOf k (s .limits))) _ _ (λ e. assigned-at k n (placeOf i (s .device)) l (place-present i (s .device) l)) (λ e. refuse s h 19)))
+      (λ l. either-way s h (leb n (limitOf k (s .limits))) _ _ (λ e. assigned-at k n (slotOf i (s .device)) l (slot-present i (s .device) l)) (λ e. refuse s h Enodev)))
 
   -- what does not touch a device
   masks-set : (m : HostMasks) → Exclusive (stateAfter s (setHost m s))
   unfolding setHost withHost
-  masks-set m = either-way s h (someBelow queues (both (Queues.reserved m) (Commands.assigned (s .device)))) _ _ (λ e. refuse s h 98) (λ e. grant s h (withHost m s) (record { apart = h .apart; there = h .there }))
+  masks-set m = either-way s h (someBelow queues (both (Queues.reserved m) (Commands.assigned (s .device)))) _ _ (λ e. refuse s h Eaddrinuse) (λ e. grant s h (withHost m s) (record { apart = h .apart; there = h .there }))
 
   -- every command
   after-command : (c : Command) → Exclusive (stateAfter s (rule c s))
@@ -238,7 +240,7 @@ module _ (s : State) (h : Exclusive s) where
   after-command (setApmask text) = with-text s h (maskText text (s .host .apmask)) _ (λ m. masks-set (record { apmask = m; aqmask = s .host .aqmask }))
   after-command (setAqmask text) = with-text s h (maskText text (s .host .aqmask)) _ (λ m. masks-set (record { apmask = s .host .apmask; aqmask = m }))
   after-command (configure c) =
-      either-way s h (beyondLimits (s .limits) c) _ _ (λ e. refuse s h 19) (λ e. grant s h (withConfig (stored c) s) (record { apart = h .apart; there = h .there }))
+      either-way s h (beyondLimits (s .limits) c) _ _ (λ e. refuse s h Enodev) (λ e. grant s h (withConfig (stored c) s) (record { apart = h .apart; there = h .there }))
 
   -- a move
   after-move : (q : ℕ) → Exclusive (Queues.move q s)

@@ -11,7 +11,7 @@ use Rattle.rules.specs.declared.Driver.{Driver}
 use Rattle.rules.specs.declared.Driver.the-variants.{Unbound, Host, Passthrough}
 use Rattle.rules.specs.declared.Moved.{Moved}
 use Rattle.rules.specs.declared.Moved.the-variants.{Idle, Released, BoundHost, BoundPassthrough}
-use Rattle.rules.specs.State.{Device, State, places, queues, inProduct}
+use Rattle.rules.specs.State.{Device, State, slots, queues, inProduct}
 use Rattle.rules.specs.Queues.{targetOf, target, moved, moveAnswer, move, remaining, reserved, configured, passed, guestDomains, guestAdapters, guestControls}
 use Rattle.rules.proofs.Products.{queue-apid, queue-below, in-product}
 use Rattle.rules.proofs.Moves.{spent, remaining-move}
@@ -37,7 +37,7 @@ busy m b e = let z : spent m ≡ 0 = ap spent e in omega arith
 
 -- a move is idle only where the driver is the target
 idle-target : (d t : Driver) → moved d t ≡ Idle → d ≡ t
-unfolding moved spent
+unfolding spent
 idle-target Unbound Unbound e = refl
 idle-target Unbound Host e = absurd (busy BoundHost refl e)
 idle-target Unbound Passthrough e = absurd (busy BoundPassthrough refl e)

@@ -9,7 +9,7 @@ use Rattle.rules.specs.declared.Driver.{Driver}
 use Rattle.rules.specs.declared.Driver.the-variants.{Host}
 use Rattle.rules.specs.declared.Moved.{Moved}
 use Rattle.rules.specs.declared.Moved.the-variants.{Idle}
-use Rattle.rules.specs.State.{Limits, State, fresh, places, queues}
+use Rattle.rules.specs.State.{Limits, State, fresh, slots, queues}
 use Rattle.rules.specs.Queues as Queues
 use Rattle.rules.specs.Queues.{remaining, moveAnswer, usable}
 use Rattle.model.specs.Steps.{Step, commandsOf, afterAll, answers}
@@ -35,9 +35,9 @@ Settled s = (q : ℕ) → q < queues → moveAnswer q s ≡ Idle
 -- every driver and every device's guest masks are the model's
 pub record Follows (s : State) (m : Model) : Type 0 where
   pub drivers : (a d : ℕ) → a < 256 → d < 256 → s .driver (a * 256 + d) ≡ Model.driver m a d
-  pub guestAdapters : (p a : ℕ) → p < places → a < 256 → Queues.guestAdapters s (s .device p) a ≡ Model.guestAdapters m (m .device p) a
-  pub guestDomains : (p d : ℕ) → p < places → d < 256 → Queues.guestDomains s (s .device p) d ≡ Model.guestDomains m (m .device p) d
-  pub guestControls : (p d : ℕ) → p < places → d < 256 → Queues.guestControls s (s .device p) d ≡ Model.guestControls m (m .device p) d
+  pub guestAdapters : (p a : ℕ) → p < slots → a < 256 → Queues.guestAdapters s (s .device p) a ≡ Model.guestAdapters m (m .device p) a
+  pub guestDomains : (p d : ℕ) → p < slots → d < 256 → Queues.guestDomains s (s .device p) d ≡ Model.guestDomains m (m .device p) d
+  pub guestControls : (p d : ℕ) → p < slots → d < 256 → Queues.guestControls s (s .device p) d ≡ Model.guestControls m (m .device p) d
 
 -- the statement on one list, of the state that the list's steps lead to
 pub record Demand3 (l : Limits) (steps : List Step) (s : State) : Type 0 where
@@ -46,8 +46,8 @@ pub record Demand3 (l : Limits) (steps : List Step) (s : State) : Type 0 where
   -- 2: ids, open marks, assigned masks, host masks and configuration are the model's
   pub keeps : Kept s (kept (commandsOf steps) (start (l .adapter) (l .domain)))
   -- 3: no queue is usable by two guests, nor by a guest while a host driver holds it
-  pub apart : (p j q : ℕ) → p < places → j < places → q < queues → usable s (s .device p) q ≡ true → usable s (s .device j) q ≡ true → p ≡ j
-  pub notHost : (p q : ℕ) → p < places → q < queues → usable s (s .device p) q ≡ true → s .driver q ≡ Host → ⊥
+  pub apart : (p j q : ℕ) → p < slots → j < slots → q < queues → usable s (s .device p) q ≡ true → usable s (s .device j) q ≡ true → p ≡ j
+  pub notHost : (p q : ℕ) → p < slots → q < queues → usable s (s .device p) q ≡ true → s .driver q ≡ Host → ⊥
   -- 4: where no move is due, drivers and guest masks are the model's
   pub settled : Settled s → Follows s (kept (commandsOf steps) (start (l .adapter) (l .domain)))
   -- 5: a due move lowers the moves remaining by exactly one, and an idle one leaves them

@@ -7,6 +7,9 @@ use mathlib.Core.List.{List, [], _∷_}
 use lib.ListN.{getD}
 use lib.Dec.{eqb, ltb, leb}
 use Rattle.errno.specs.Outcome.{Outcome, granted, refused}
+use Rattle.errno.specs.Errno.{numberOf}
+use Rattle.errno.specs.declared.Errno.{Errno}
+use Rattle.errno.specs.declared.Errno.the-variants.{Enoent, Ebusy, Eexist, Enodev, Einval, Enospc, Eaddrinuse, Eaddrnotavail}
 use Rattle.mask.specs.Bits.{Bits, bits, someBelow}
 use Rattle.number.specs.Text.{numberText}
 use Rattle.masktext.specs.Text.{maskText}
@@ -51,24 +54,24 @@ known i m = someBelow most (λ p. named i (m .device p))
 unfoldable pub room : Model → Bool
 room m = someBelow most (λ p. not (m .device p .present))
 
--- the lowest place from k on, of n, that a test holds of
+-- the lowest slot from k on, of n, that a test holds of
 unfoldable pub lowest : ℕ → ℕ → (ℕ → Bool) → ℕ
 lowest zero k t = k
 lowest (suc n) k t = cond (t k) k (lowest n (suc k) t)
 
--- the place of the device with an id
-unfoldable pub place : Id → Model → ℕ
-place i m = lowest most 0 (λ p. named i (m .device p))
+-- the slot of the device with an id
+unfoldable pub slot : Id → Model → ℕ
+slot i m = lowest most 0 (λ p. named i (m .device p))
 
 -- the device with an id
 unfoldable pub its : Id → Model → Device
-its i m = m .device (place i m)
+its i m = m .device (slot i m)
 
 -- a pair in a device's assigned product
 unfoldable pub holds : Device → ℕ → ℕ → Bool
 holds v a d = v .present && (v .adapters a && v .domains d)
 
--- a pair in the assigned product of a device at another place than p
+-- a pair in the assigned product of a device at another slot than p
 unfoldable pub anotherHolds : Model → ℕ → ℕ → ℕ → Bool
 anotherHolds m p a d = someBelow most (λ j. not (eqb j p) && holds (m .device j) a d)
 
@@ -104,7 +107,7 @@ bitAbove limit b = someBelow 256 (λ i. b i && ltb limit i)
 
 -- ---- effects
 
--- a device at a place
+-- a device at a slot
 unfoldable pub put : ℕ → Device → Model → Model
 put p v m =
     record {
@@ -119,7 +122,7 @@ put p v m =
       device = λ j. cond (eqb j p) v (m .device j);
     }
 
--- a device with nothing assigned, not open; without an id it is an empty place
+-- a device with nothing assigned, not open; without an id it is an empty slot
 unfoldable pub bare : Bool → Id → Device
 bare here i = record { present = here; isOpen = false; id = i; adapters = λ n. false; domains = λ n. false; controls = λ n. false }
 
@@ -176,10 +179,10 @@ given c m =
 
 -- ---- checks and answers
 
--- a check: where it holds, the command is refused with this errno value
+-- a check: where it holds, the command is refused with this errno
 pub record Check : Type 0 where
   pub when : Bool
-  pub errno : ℕ
+  pub errno : Errno
 
 -- an answer, 0 where there is no refusal, and what the model keeps then
 pub record Reply : Type 0 where
@@ -189,52 +192,52 @@ pub record Reply : Type 0 where
 -- the first check that holds refuses, and a refused command changes nothing
 unfoldable pub judged : List Check → Model → Model → Reply
 judged [] m done = record { errno = 0; next = done }
-judged (c ∷ cs) m done = cond (c .when) (record { errno = c .errno; next = m }) (judged cs m done)
+judged (c ∷ cs) m done = cond (c .when) (record { errno = numberOf (c .errno); next = m }) (judged cs m done)
 
 -- text is read before anything else is checked
 unfoldable pub withText : {A : Type 0} → Outcome A → Model → (A → Reply) → Reply
 withText (granted a) m next = next a
-withText (refused e) m next = record { errno = e; next = m }
+withText (refused e) m next = record { errno = numberOf e; next = m }
 
 -- 01's table of commands: the checks in their order, and the effect
 unfoldable pub reply : Command → Model → Reply
 reply (create i) m =
-    judged (record { when = known i m; errno = 17 } ∷ record { when = not (room m); errno = 28 } ∷ []) m
+    judged (record { when = known i m; errno = Eexist } ∷ record { when = not (room m); errno = Enospc } ∷ []) m
     (put (lowest most 0 (λ p. not (m .device p .present))) (bare true i) m)
 reply (remove i) m =
-    judged (record { when = not (known i m); errno = 2 } ∷ record { when = its i m .isOpen; errno = 16 } ∷ []) m
-    (put (place i m) (bare false nobody) m)
+    judged (record { when = not (known i m); errno = Enoent } ∷ record { when = its i m .isOpen; errno = Ebusy } ∷ []) m
+    (put (slot i m) (bare false nobody) m)
 reply (openIt i) m =
-    judged (record { when = not (known i m); errno = 2 } ∷ record { when = its i m .isOpen; errno = 16 } ∷ []) m
-    (put (place i m) (marked true (its i m)) m)
+    judged (record { when = not (known i m); errno = Enoent } ∷ record { when = its i m .isOpen; errno = Ebusy } ∷ []) m
+    (put (slot i m) (marked true (its i m)) m)
 reply (closeIt i) m =
-    judged (record { when = not (known i m); errno = 2 } ∷ record { when = not (its i m .isOpen); errno = 22 } ∷ []) m
-    (put (place i m) (marked false (its i m)) m)
+    judged (record { when = not (known i m); errno = Enoent } ∷ record { when = not (its i m .isOpen); errno = Einval } ∷ []) m
+    (put (slot i m) (marked false (its i m)) m)
 reply (assign k i text) m =
     withText (numberText text) m
     (λ n. judged
-    (record { when = not (known i m); errno = 2 }
-    ∷ record { when = ltb (highest k m) n; errno = 19 }
-    ∷ record { when = somePair (λ a d. new k n (its i m) a d && reserved m a d); errno = 99 }
-    ∷ record { when = somePair (λ a d. new k n (its i m) a d && anotherHolds m (place i m) a d); errno = 98 }
+    (record { when = not (known i m); errno = Enoent }
+    ∷ record { when = ltb (highest k m) n; errno = Enodev }
+    ∷ record { when = somePair (λ a d. new k n (its i m) a d && reserved m a d); errno = Eaddrnotavail }
+    ∷ record { when = somePair (λ a d. new k n (its i m) a d && anotherHolds m (slot i m) a d); errno = Eaddrinuse }
     ∷ [])
     m
-    (put (place i m) (turn true k n (its i m)) m))
+    (put (slot i m) (turn true k n (its i m)) m))
 reply (unassign k i text) m =
     withText (numberText text) m
-    (λ n. judged (record { when = not (known i m); errno = 2 } ∷ record { when = ltb (highest k m) n; errno = 19 } ∷ []) m
-    (put (place i m) (turn false k n (its i m)) m))
+    (λ n. judged (record { when = not (known i m); errno = Enoent } ∷ record { when = ltb (highest k m) n; errno = Enodev } ∷ []) m
+    (put (slot i m) (turn false k n (its i m)) m))
 reply (setApmask text) m =
     withText (maskText text (m .apmask)) m
-    (λ b. judged (record { when = somePair (λ a d. (b a && m .aqmask d) && someHolds m a d); errno = 98 } ∷ []) m (masked b (m .aqmask) m))
+    (λ b. judged (record { when = somePair (λ a d. (b a && m .aqmask d) && someHolds m a d); errno = Eaddrinuse } ∷ []) m (masked b (m .aqmask) m))
 reply (setAqmask text) m =
     withText (maskText text (m .aqmask)) m
-    (λ b. judged (record { when = somePair (λ a d. (m .apmask a && b d) && someHolds m a d); errno = 98 } ∷ []) m (masked (m .apmask) b m))
+    (λ b. judged (record { when = somePair (λ a d. (m .apmask a && b d) && someHolds m a d); errno = Eaddrinuse } ∷ []) m (masked (m .apmask) b m))
 reply (configure c) m =
     judged
-    (record { when = bitAbove (m .highestAdapter) (bits (c .adapters)); errno = 19 }
-    ∷ record { when = bitAbove (m .highestDomain) (bits (c .domains)); errno = 19 }
-    ∷ record { when = bitAbove (m .highestDomain) (bits (c .controls)); errno = 19 }
+    (record { when = bitAbove (m .highestAdapter) (bits (c .adapters)); errno = Enodev }
+    ∷ record { when = bitAbove (m .highestDomain) (bits (c .domains)); errno = Enodev }
+    ∷ record { when = bitAbove (m .highestDomain) (bits (c .controls)); errno = Enodev }
     ∷ [])
     m (given c m)
 

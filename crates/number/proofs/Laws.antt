@@ -13,6 +13,7 @@ use lib.Seq.{length-take-le, take-length, drop-cons}
 use lib.Dec.{ltb, leb, eqb}
 use borrow.Author.Tests.{ltb-true, leb-true, leb-false, lt-leb}
 use Rattle.errno.specs.Outcome.{Outcome, granted, refused}
+use Rattle.errno.specs.declared.Errno.the-variants.{Einval}
 use Rattle.number.specs.Text.{digitOf, body, digitsAfter, anyBase, atMost, numberRule}
 
 right : (a b : Bool) → a && b ≡ true → b ≡ true
@@ -48,13 +49,13 @@ pub within : (limit : ℕ) (o : Outcome ℕ) {v : ℕ} → atMost limit o ≡ gr
 unfolding atMost
 within limit (granted w) {v} e = step (leb w limit) refl e
   where
-    step : (b : Bool) → leb w limit ≡ b → cond b (granted w) (refused 22) ≡ granted v → v ≤ limit
+    step : (b : Bool) → leb w limit ≡ b → cond b (granted w) (refused Einval) ≡ granted v → v ≤ limit
     step true h e = let q : w ≡ v = cc in omega (arith, leb-true w limit h)
     step false h e = let z : _≡_ {A = ℕ} 0 1 = cc in omega arith
 within limit (refused n) {v} e = let z : _≡_ {A = ℕ} 0 1 = cc in omega arith
 
 -- the same behind a test
-pub within-if : (b : Bool) (limit : ℕ) (o : Outcome ℕ) {v : ℕ} → cond b (atMost limit o) (refused 22) ≡ granted v → v ≤ limit
+pub within-if : (b : Bool) (limit : ℕ) (o : Outcome ℕ) {v : ℕ} → cond b (atMost limit o) (refused Einval) ≡ granted v → v ≤ limit
 within-if true limit o e = within limit o e
 within-if false limit o e = let z : _≡_ {A = ℕ} 0 1 = cc in omega arith
 
@@ -64,7 +65,7 @@ unfolding numberRule
 rule-le limit s e = within-if (leb (length s) 16) limit (anyBase s) e
 
 -- a value above the limit is bad whatever digits follow
-pub above : (limit base v : ℕ) (cs : List ℕ) → limit < v → atMost limit (digitsAfter base v cs) ≡ refused 22
+pub above : (limit base v : ℕ) (cs : List ℕ) → limit < v → atMost limit (digitsAfter base v cs) ≡ refused Einval
 unfolding digitsAfter atMost
 above limit base v [] h = rw (lt-leb v limit h)
 above limit base v (c ∷ cs) h = step (ltb (digitOf c) base) refl (above limit base (v * base + digitOf c) cs)
@@ -72,7 +73,7 @@ above limit base v (c ∷ cs) h = step (ltb (digitOf c) base) refl (above limit 
     rest : Outcome ℕ
     rest = digitsAfter base (v * base + digitOf c) cs
 
-    step : (b : Bool) → ltb (digitOf c) base ≡ b → (limit < v * base + digitOf c → atMost limit rest ≡ refused 22) → atMost limit (cond b rest (refused 22)) ≡ refused 22
+    step : (b : Bool) → ltb (digitOf c) base ≡ b → (limit < v * base + digitOf c → atMost limit rest ≡ refused Einval) → atMost limit (cond b rest (refused Einval)) ≡ refused Einval
     step true e next =
         let q : digitOf c < base = ltb-true (digitOf c) base e in
         let m : v ≤ v * base = le-mul-of-pos-right v (omega arith) in
@@ -81,7 +82,7 @@ above limit base v (c ∷ cs) h = step (ltb (digitOf c) base) refl (above limit 
 
 -- the value after one more digit
 abbrev pub oneMore : ℕ → ℕ → ℕ → ℕ → Outcome ℕ
-oneMore limit base v c = cond (ltb (digitOf c) base) (atMost limit (granted (v * base + digitOf c))) (refused 22)
+oneMore limit base v c = cond (ltb (digitOf c) base) (atMost limit (granted (v * base + digitOf c))) (refused Einval)
 
 pub one-le : (limit base v c : ℕ) {w : ℕ} → oneMore limit base v c ≡ granted w → w ≤ limit
 one-le limit base v c e = within-if (ltb (digitOf c) base) limit (granted (v * base + digitOf c)) e
@@ -99,11 +100,11 @@ turn limit base v c cs = step (ltb (digitOf c) base)
     next : ℕ
     next = v * base + digitOf c
 
-    small : (b : Bool) → leb next limit ≡ b → atMost limit (digitsAfter base next cs) ≡ andDigits limit base cs (cond b (granted next) (refused 22))
+    small : (b : Bool) → leb next limit ≡ b → atMost limit (digitsAfter base next cs) ≡ andDigits limit base cs (cond b (granted next) (refused Einval))
     small true e = refl
     small false e = above limit base next cs (leb-false next limit e)
 
-    step : (b : Bool) → atMost limit (cond b (digitsAfter base next cs) (refused 22)) ≡ andDigits limit base cs (cond b (atMost limit (granted next)) (refused 22))
+    step : (b : Bool) → atMost limit (cond b (digitsAfter base next cs) (refused Einval)) ≡ andDigits limit base cs (cond b (atMost limit (granted next)) (refused Einval))
     step true = small (leb next limit) refl
     step false = refl
 

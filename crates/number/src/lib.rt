@@ -7,6 +7,7 @@ ghost use Prim.Native.Nat.{_+_, _*_};
 ghost use lib.Dec.{ltb};
 ghost use lib.ListN.{length, getD, drop};
 ghost use Rattle.errno.specs.Outcome.{granted, refused};
+ghost use Rattle.errno.specs.declared.Errno.the-variants.{Einval};
 ghost use Rattle.number.specs.Text.{outcome, digitOf, body, startsHex, digits, atMost, numberRule, numberText};
 
 // What reading a text finds.
@@ -116,7 +117,7 @@ fn digits_from(s: &[u8], from: usize, base: u8, limit: u16) -> Number
 
 // The value after one more digit.
 fn one_more(v: u16, base: u8, c: u8, limit: u16) -> Number
-    ensures { λ r. ⌜ outcome r ≡ cond (ltb (digitOf c) base) (atMost limit (granted (v * base + digitOf c))) (refused 22) ⌝ }
+    ensures { λ r. ⌜ outcome r ≡ cond (ltb (digitOf c) base) (atMost limit (granted (v * base + digitOf c))) (refused Einval) ⌝ }
 {
     let d = digit_of(c);
     if base <= d {

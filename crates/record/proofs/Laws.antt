@@ -26,10 +26,10 @@ use Rattle.rules.specs.declared.Driver.{Driver}
 use Rattle.rules.specs.declared.Driver.the-variants.{Unbound, Host, Passthrough}
 use Rattle.rules.specs.declared.Id.{Id}
 use Rattle.rules.specs.declared.Configuration.{Configuration}
-use Rattle.rules.specs.State.{HostMasks, Device, State, places, queues, noDevice, fresh}
+use Rattle.rules.specs.State.{HostMasks, Device, State, slots, queues, noDevice, fresh}
 use Rattle.rules.specs.Queues.{rebound}
 use Rattle.rules.specs.Commands.{numbersOf, withDevice, withHost, withNumbers, withOpen, newDevice, withConfig, stored, answered, errnoOf, stateAfter}
-use Rattle.record.specs.Layout.{four, maskAt, flag, driverOf, byteOf, limitsIn, hostIn, configIn, deviceIn, stateIn, wordsOf, putFour, putNumbers, putOpen, putDevice, putTypes, putConfig, freshWords, unbind, apmaskAt, aqmaskAt, configAt, typesAt, deviceAt, kindAt, noId, zeros, ones}
+use Rattle.record.specs.Layout.{wordCount, four, maskAt, flag, driverOf, byteOf, limitsIn, hostIn, configIn, deviceIn, stateIn, wordsOf, putFour, putNumbers, putOpen, putDevice, putTypes, putConfig, freshWords, unbind, apmaskAt, aqmaskAt, configAt, typesAt, deviceAt, kindAt, noId, zeros, ones}
 use Rattle.record.specs.Carried.{Carried, takenAway}
 use Rattle.record.specs.Held.{Held}
 
@@ -45,9 +45,9 @@ cond-both : {A : Type 0} (t : Bool) (a : A) → cond t a a ≡ a
 cond-both true a = refl
 cond-both false a = refl
 
--- ---- a device's place
+-- ---- a device's slot
 
--- the device at one of the places
+-- the device at one of the slots
 abbrev pub deviceThere : List ℕ → ℕ → Device
 deviceThere ws p =
     record {
@@ -59,13 +59,13 @@ deviceThere ws p =
       controls = maskAt ws (deviceAt p + 12);
     }
 
-pub device-there : (ws : List ℕ) (p : ℕ) → p < places → deviceIn ws p ≡ deviceThere ws p
+pub device-there : (ws : List ℕ) (p : ℕ) → p < slots → deviceIn ws p ≡ deviceThere ws p
 unfolding deviceIn
-device-there ws p h = cond-below p places (deviceThere ws p) noDevice h
+device-there ws p h = cond-below p slots (deviceThere ws p) noDevice h
 
-pub device-past : (ws : List ℕ) (p : ℕ) → places ≤ p → deviceIn ws p ≡ noDevice
+pub device-past : (ws : List ℕ) (p : ℕ) → slots ≤ p → deviceIn ws p ≡ noDevice
 unfolding deviceIn
-device-past ws p h = cond-past p places (deviceThere ws p) noDevice h
+device-past ws p h = cond-past p slots (deviceThere ws p) noDevice h
 
 pub numbers-there : (ws : List ℕ) (p : ℕ) (k : Kind) → numbersOf k (deviceThere ws p) ≡ maskAt ws (deviceAt p + kindAt k)
 unfolding numbersOf
@@ -228,7 +228,7 @@ module _ {a n : ℕ} {ws vs : List ℕ} (o : Off a n ws vs) where
       types j false e = refl
 
   pub device-off : (p : ℕ) → Apart a n (deviceAt p) 16 → deviceIn vs p ≡ deviceIn ws p
-  device-off p h = go (ltb p places) refl
+  device-off p h = go (ltb p slots) refl
     where
       k : ℕ
       k = deviceAt p
@@ -245,9 +245,9 @@ module _ {a n : ℕ} {ws vs : List ℕ} (o : Off a n ws vs) where
           (same-id (word (k + 2) (omega arith) (omega arith)) (word (k + 3) (omega arith) (omega arith))) (mask (k + 4) (omega arith) (omega arith))
           (mask (k + 8) (omega arith) (omega arith)) (mask (k + 12) (omega arith) (omega arith))
 
-      go : (b : Bool) → ltb p places ≡ b → deviceIn vs p ≡ deviceIn ws p
-      go true e = let l : p < places = ltb-true p places e in device-there vs p l ∙ there ∙ sym (device-there ws p l)
-      go false e = let l : places ≤ p = ltb-false p places e in device-past vs p l ∙ sym (device-past ws p l)
+      go : (b : Bool) → ltb p slots ≡ b → deviceIn vs p ≡ deviceIn ws p
+      go true e = let l : p < slots = ltb-true p slots e in device-there vs p l ∙ there ∙ sym (device-there ws p l)
+      go false e = let l : slots ≤ p = ltb-false p slots e in device-past vs p l ∙ sym (device-past ws p l)
 
 -- a mask apart from four words that are put
 pub put-other : (ws : List ℕ) (k : ℕ) (m : List ℕ) (j : ℕ) → (j + 4 ≤ k) ⊎ (k + 4 ≤ j) → four (putFour ws k m) j ≡ four ws j
@@ -326,40 +326,40 @@ length-chosen false us ws e = refl
 
 pub numbers-length : (ws : List ℕ) (p : ℕ) (k : Kind) (m : List ℕ) → length (putNumbers ws p k m) ≡ length ws
 unfolding putNumbers
-numbers-length ws p k m = length-chosen (ltb p places) (putFour ws (deviceAt p + kindAt k) m) ws (put-length ws (deviceAt p + kindAt k) m)
+numbers-length ws p k m = length-chosen (ltb p slots) (putFour ws (deviceAt p + kindAt k) m) ws (put-length ws (deviceAt p + kindAt k) m)
 
 pub open-length : (ws : List ℕ) (p : ℕ) (o : Bool) → length (putOpen ws p o) ≡ length ws
 unfolding putOpen
 open-length ws p o =
-    length-chosen (ltb p places) (set ws (deviceAt p + 1) (cond o 1 0)) ws (length-set ws (deviceAt p + 1) (cond o 1 0))
+    length-chosen (ltb p slots) (set ws (deviceAt p + 1) (cond o 1 0)) ws (length-set ws (deviceAt p + 1) (cond o 1 0))
 
--- the words of a place that is given: the first four, then three masks
+-- the words of a slot that is given: the first four, then three masks
 abbrev firstFour : Bool → Id → List ℕ
 firstFour t i = cond t 1 0 ∷ 0 ∷ i .hi ∷ i .lo ∷ []
 
-abbrev place1 : List ℕ → ℕ → Bool → Id → List ℕ
-place1 ws p t i = putFour ws (deviceAt p) (firstFour t i)
+abbrev slot1 : List ℕ → ℕ → Bool → Id → List ℕ
+slot1 ws p t i = putFour ws (deviceAt p) (firstFour t i)
 
-abbrev place2 : List ℕ → ℕ → Bool → Id → List ℕ
-place2 ws p t i = putFour (place1 ws p t i) (deviceAt p + 4) zeros
+abbrev slot2 : List ℕ → ℕ → Bool → Id → List ℕ
+slot2 ws p t i = putFour (slot1 ws p t i) (deviceAt p + 4) zeros
 
-abbrev place3 : List ℕ → ℕ → Bool → Id → List ℕ
-place3 ws p t i = putFour (place2 ws p t i) (deviceAt p + 8) zeros
+abbrev slot3 : List ℕ → ℕ → Bool → Id → List ℕ
+slot3 ws p t i = putFour (slot2 ws p t i) (deviceAt p + 8) zeros
 
-abbrev placeWords : List ℕ → ℕ → Bool → Id → List ℕ
-placeWords ws p t i = putFour (place3 ws p t i) (deviceAt p + 12) zeros
+abbrev slotWords : List ℕ → ℕ → Bool → Id → List ℕ
+slotWords ws p t i = putFour (slot3 ws p t i) (deviceAt p + 12) zeros
 
 pub device-length : (ws : List ℕ) (p : ℕ) (t : Bool) (i : Id) → length (putDevice ws p t i) ≡ length ws
 unfolding putDevice
-device-length ws p t i = length-chosen (ltb p places) (placeWords ws p t i) ws (simp put-length)
+device-length ws p t i = length-chosen (ltb p slots) (slotWords ws p t i) ws (simp put-length)
 
 pub config-length : (ws : List ℕ) (c : Configuration) → length (putConfig ws c) ≡ length ws
 unfolding putConfig
 config-length ws c = types-length _ _ 256 ∙ simp put-length
 
-pub fresh-length : (a d : ℕ) → length (freshWords a d) ≡ 406
+pub fresh-length : (a d : ℕ) → length (freshWords a d) ≡ wordCount
 unfolding freshWords
-fresh-length a d = simp (put-length, length-set) (length-replicate {A = ℕ} 406 0)
+fresh-length a d = simp (put-length, length-set) (length-replicate {A = ℕ} wordCount 0)
 
 -- ---- the words of masks
 
@@ -410,7 +410,7 @@ read-host {ws} {vs} qs h o e =
     same-state (stateIn vs qs) (withHost h (stateIn ws qs)) (limits-off o (omega arith)) e (config-off o (inr (omega arith)))
     (fun-ext (λ p. device-off o p (inr (omega arith)))) refl
 
-module _ (ws qs m : List ℕ) (long : length ws ≡ 406) (four-words : length m ≡ 4) where
+module _ (ws qs m : List ℕ) (long : length ws ≡ wordCount) (four-words : length m ≡ 4) where
   pub read-apmask : stateIn (putFour ws apmaskAt m) qs ≡ withHost (record { apmask = bitAt 64 m; aqmask = hostIn ws .aqmask }) (stateIn ws qs)
   unfolding hostIn maskAt
   read-apmask =
@@ -429,8 +429,8 @@ module _ (ws qs m : List ℕ) (long : length ws ≡ 406) (four-words : length m 
       read-host qs (record { apmask = hostIn ws .apmask; aqmask = bitAt 64 m }) (off-wider 2 8 o (omega arith) (omega arith))
       (λ i. record { apmask = p i; aqmask = q i })
 
--- words that differ at one place hold the state with that device replaced
-pub read-device : {ws vs : List ℕ} (qs : List ℕ) (p : ℕ) (v : Device) → p < places → Off (deviceAt p) 16 ws vs → deviceIn vs p ≡ v
+-- words that differ at one slot hold the state with that device replaced
+pub read-device : {ws vs : List ℕ} (qs : List ℕ) (p : ℕ) (v : Device) → p < slots → Off (deviceAt p) 16 ws vs → deviceIn vs p ≡ v
     → stateIn vs qs ≡ withDevice p v (stateIn ws qs)
 unfolding stateIn withDevice
 read-device {ws} {vs} qs p v h o e =
@@ -454,7 +454,7 @@ unfolding flag
 flag-of true = refl
 flag-of false = refl
 
-module _ (ws : List ℕ) (qs : List ℕ) (p : ℕ) (long : length ws ≡ 406) (there : p < places) where
+module _ (ws : List ℕ) (qs : List ℕ) (p : ℕ) (long : length ws ≡ wordCount) (there : p < slots) where
   -- a device whose mask of a kind is put
   device-numbers : (k : Kind) (m vs : List ℕ) → Off (deviceAt p + kindAt k) 4 ws vs → maskAt vs (deviceAt p + kindAt k) ≡ bitAt 64 m
       → deviceThere vs p ≡ withNumbers k (bitAt 64 m) (deviceThere ws p)
@@ -488,7 +488,7 @@ module _ (ws : List ℕ) (qs : List ℕ) (p : ℕ) (long : length ws ≡ 406) (t
   read-numbers k m e =
       let at = deviceAt p + kindAt k in
       let small = kind-small k in
-      ap (λ (vs : List ℕ). stateIn vs qs) (cond-below p places (putFour ws at m) ws there)
+      ap (λ (vs : List ℕ). stateIn vs qs) (cond-below p slots (putFour ws at m) ws there)
       ∙ read-device qs p (withNumbers k (bitAt 64 m) (deviceIn ws p)) there (off-wider (deviceAt p) 16 (off-four ws at m) (omega arith) (omega arith))
       (device-there (putFour ws at m) p there ∙ device-numbers k m (putFour ws at m) (off-four ws at m) (ap (bitAt 64) (put-get ws at m (omega arith) e))
       ∙ ap (withNumbers k (bitAt 64 m)) (sym (device-there ws p there)))
@@ -498,7 +498,7 @@ module _ (ws : List ℕ) (qs : List ℕ) (p : ℕ) (long : length ws ≡ 406) (t
   read-open t =
       let vs = set ws (deviceAt p + 1) (cond t 1 0) in
       let o = off-set ws (deviceAt p + 1) (cond t 1 0) in
-      ap (λ (l : List ℕ). stateIn l qs) (cond-below p places vs ws there)
+      ap (λ (l : List ℕ). stateIn l qs) (cond-below p slots vs ws there)
       ∙ read-device qs p (withOpen t (deviceIn ws p)) there (off-wider (deviceAt p) 16 o (omega arith) (omega arith))
       (device-there vs p there
       ∙ same-device (deviceThere vs p) (withOpen t (deviceThere ws p)) (ap flag (o .at (deviceAt p) (inl (omega arith)))) (ap flag (getD-set-same ws (deviceAt p + 1) (cond t 1 0) 0 (omega arith)) ∙ flag-of t)
@@ -506,11 +506,11 @@ module _ (ws : List ℕ) (qs : List ℕ) (p : ℕ) (long : length ws ≡ 406) (t
       (mask-off o (deviceAt p + 8) (inr (omega arith))) (mask-off o (deviceAt p + 12) (inr (omega arith)))
       ∙ ap (withOpen t) (sym (device-there ws p there)))
 
-  -- either way of giving a place
-  device-given : (t : Bool) (i : Id) → deviceThere (placeWords ws p t i) p ≡ givenDevice t i
+  -- either way of giving a slot
+  device-given : (t : Bool) (i : Id) → deviceThere (slotWords ws p t i) p ≡ givenDevice t i
   unfolding maskAt
   device-given t i =
-      same-device (deviceThere (placeWords ws p t i) p) (givenDevice t i) (ap (λ (l : List ℕ). flag (getD l 0 0)) first ∙ flag-of t)
+      same-device (deviceThere (slotWords ws p t i) p) (givenDevice t i) (ap (λ (l : List ℕ). flag (getD l 0 0)) first ∙ flag-of t)
       (ap (λ (l : List ℕ). flag (getD l 1 0)) first ∙ flag-of false) (same-id (ap (λ (l : List ℕ). getD l 2 0) first) (ap (λ (l : List ℕ). getD l 3 0) first))
       (ap (bitAt 64)
       (put-other s3 (k + 12) zeros (k + 4) (inl (omega arith)) ∙ put-other s2 (k + 8) zeros (k + 4) (inl (omega arith))
@@ -523,15 +523,15 @@ module _ (ws : List ℕ) (qs : List ℕ) (p : ℕ) (long : length ws ≡ 406) (t
       k = deviceAt p
 
       s1 : List ℕ
-      s1 = place1 ws p t i
+      s1 = slot1 ws p t i
 
       s2 : List ℕ
-      s2 = place2 ws p t i
+      s2 = slot2 ws p t i
 
       s3 : List ℕ
-      s3 = place3 ws p t i
+      s3 = slot3 ws p t i
 
-      first : four (placeWords ws p t i) k ≡ firstFour t i
+      first : four (slotWords ws p t i) k ≡ firstFour t i
       first =
           put-other s3 (k + 12) zeros k (inl (omega arith)) ∙ put-other s2 (k + 8) zeros k (inl (omega arith))
           ∙ put-other s1 (k + 4) zeros k (inl (omega arith)) ∙ put-get ws k (firstFour t i) (omega arith) refl
@@ -539,14 +539,14 @@ module _ (ws : List ℕ) (qs : List ℕ) (p : ℕ) (long : length ws ≡ 406) (t
   read-given : (t : Bool) (i : Id) → stateIn (putDevice ws p t i) qs ≡ withDevice p (givenDevice t i) (stateIn ws qs)
   unfolding putDevice
   read-given t i =
-      ap (λ (vs : List ℕ). stateIn vs qs) (cond-below p places (placeWords ws p t i) ws there)
+      ap (λ (vs : List ℕ). stateIn vs qs) (cond-below p slots (slotWords ws p t i) ws there)
       ∙ read-device qs p (givenDevice t i) there
       (off-then
       (off-then
-      (off-then (within ws (deviceAt p) (firstFour t i) (omega arith) (omega arith)) (within (place1 ws p t i) (deviceAt p + 4) zeros (omega arith) (omega arith)))
-      (within (place2 ws p t i) (deviceAt p + 8) zeros (omega arith) (omega arith)))
-      (within (place3 ws p t i) (deviceAt p + 12) zeros (omega arith) (omega arith)))
-      (device-there (placeWords ws p t i) p there ∙ device-given t i)
+      (off-then (within ws (deviceAt p) (firstFour t i) (omega arith) (omega arith)) (within (slot1 ws p t i) (deviceAt p + 4) zeros (omega arith) (omega arith)))
+      (within (slot2 ws p t i) (deviceAt p + 8) zeros (omega arith) (omega arith)))
+      (within (slot3 ws p t i) (deviceAt p + 12) zeros (omega arith) (omega arith)))
+      (device-there (slotWords ws p t i) p there ∙ device-given t i)
     where
       within : (us : List ℕ) (k : ℕ) (m : List ℕ) → deviceAt p ≤ k → k + 4 ≤ deviceAt p + 16 → Off (deviceAt p) 16 us (putFour us k m)
       within us k m l h = off-wider (deviceAt p) 16 (off-four us k m) l h
@@ -605,7 +605,7 @@ maskWords ws c = putFour (putFour (putFour ws configAt (c .adapters .words)) (co
 abbrev typeOf : Configuration → ℕ → ℕ
 typeOf c a = cond (bits (c .adapters) a) (getD (c .types) a 0) 0
 
-module _ (ws : List ℕ) (c : Configuration) (long : length ws ≡ 406) (wa : Words 64 4 (c .adapters .words)) (wd : Words 64 4 (c .domains .words))
+module _ (ws : List ℕ) (c : Configuration) (long : length ws ≡ wordCount) (wa : Words 64 4 (c .adapters .words)) (wd : Words 64 4 (c .domains .words))
     (wc : Words 64 4 (c .controls .words)) where
   off-config : Off 10 268 ws (putConfig ws c)
   unfolding putConfig
@@ -682,7 +682,7 @@ zero-at zero q = refl
 zero-at (suc n) zero = refl
 zero-at (suc n) (suc q) = zero-at n q
 
-module _ (zs qs : List ℕ) (a d : ℕ) (long : length zs ≡ 406) (none : (j : ℕ) → getD zs j 0 ≡ 0) (no-driver : (q : ℕ) → getD qs q 0 ≡ 0) where
+module _ (zs qs : List ℕ) (a d : ℕ) (long : length zs ≡ wordCount) (none : (j : ℕ) → getD zs j 0 ≡ 0) (no-driver : (q : ℕ) → getD qs q 0 ≡ 0) where
   -- past the host's masks all words are 0
   past-ten : (j : ℕ) → 10 ≤ j → getD (freshOver zs a d) j 0 ≡ 0
   past-ten j h =
@@ -722,16 +722,16 @@ module _ (zs qs : List ℕ) (a d : ℕ) (long : length zs ≡ 406) (none : (j : 
 
   fresh-device : (p : ℕ) → deviceIn (freshOver zs a d) p ≡ noDevice
   unfolding noDevice
-  fresh-device p = go (ltb p places) refl
+  fresh-device p = go (ltb p slots) refl
     where
-      go : (b : Bool) → ltb p places ≡ b → deviceIn (freshOver zs a d) p ≡ noDevice
+      go : (b : Bool) → ltb p slots ≡ b → deviceIn (freshOver zs a d) p ≡ noDevice
       go true e =
-          device-there (freshOver zs a d) p (ltb-true p places e)
+          device-there (freshOver zs a d) p (ltb-true p slots e)
           ∙ same-device (deviceThere (freshOver zs a d) p) noDevice (ap flag (past-ten (deviceAt p) (omega arith)) ∙ flag-of false)
           (ap flag (past-ten (deviceAt p + 1) (omega arith)) ∙ flag-of false)
           (same-id (past-ten (deviceAt p + 2) (omega arith)) (past-ten (deviceAt p + 3) (omega arith))) (no-mask (deviceAt p + 4) (omega arith))
           (no-mask (deviceAt p + 8) (omega arith)) (no-mask (deviceAt p + 12) (omega arith))
-      go false e = device-past (freshOver zs a d) p (ltb-false p places e)
+      go false e = device-past (freshOver zs a d) p (ltb-false p slots e)
 
   fresh-over : a ≤ 255 → d ≤ 255 → stateIn (freshOver zs a d) qs ≡ fresh (record { adapter = a; domain = d })
   unfolding stateIn fresh
@@ -741,7 +741,7 @@ module _ (zs qs : List ℕ) (a d : ℕ) (long : length zs ≡ 406) (none : (j : 
 
 pub read-fresh : (a d : ℕ) → a ≤ 255 → d ≤ 255 → stateIn (freshWords a d) (replicate 65536 0) ≡ fresh (record { adapter = a; domain = d })
 unfolding freshWords
-read-fresh a d ha hd = fresh-over (replicate 406 0) (replicate 65536 0) a d (length-replicate {A = ℕ} 406 0) (zero-at 406) (zero-at 65536) ha hd
+read-fresh a d ha hd = fresh-over (replicate wordCount 0) (replicate 65536 0) a d (length-replicate {A = ℕ} wordCount 0) (zero-at wordCount) (zero-at 65536) ha hd
 
 -- ---- a command
 
@@ -756,7 +756,7 @@ number-some Enospc = refl
 number-some Eaddrinuse = refl
 number-some Eaddrnotavail = refl
 
-pub refused-carried : (rule : State → Outcome State) (effect ws : List ℕ) (e : Errno) → ((qs : List ℕ) → rule (stateIn ws qs) ≡ refused (numberOf e))
+pub refused-carried : (rule : State → Outcome State) (effect ws : List ℕ) (e : Errno) → ((qs : List ℕ) → rule (stateIn ws qs) ≡ refused e)
     → Carried rule effect ws ws (Refused e)
 unfolding answered errnoOf stateAfter
 refused-carried rule effect ws e h =

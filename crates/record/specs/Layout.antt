@@ -1,4 +1,4 @@
--- The record as it lies in memory: 406 words for all but the drivers, and a byte for each queue's driver.
+-- The record as it lies in memory: words for all but the drivers, and a byte for each queue's driver.
 -- Any contents are read: a limit above 255 as 255, a flag by not being 0, a driver byte beyond the three as unbound.
 -- Assumes nothing.
 use Prim.Native.Nat.{ℕ, zero, suc, _+_, _-_, _*_, _^_, min}
@@ -13,7 +13,7 @@ use Rattle.rules.specs.declared.Kind.{Kind}
 use Rattle.rules.specs.declared.Kind.the-variants.{Adapter, Domain, Control}
 use Rattle.rules.specs.declared.Id.{Id}
 use Rattle.rules.specs.declared.Configuration.{Configuration}
-use Rattle.rules.specs.State.{Limits, HostMasks, Config, Device, State, places, noDevice}
+use Rattle.rules.specs.State.{Limits, HostMasks, Config, Device, State, slots, noDevice}
 
 -- where the parts lie: word 0 and 1 are the limits, and each mask has four words
 abbrev pub apmaskAt : ℕ
@@ -28,9 +28,17 @@ configAt = 10
 abbrev pub typesAt : ℕ
 typesAt = 22
 
--- the first word of the device at place p: present, open, the id's two words, then its three masks
+-- the words of a slot: present, open, the id's two words, then three masks
+abbrev pub slotWords : ℕ
+slotWords = 16
+
+-- the first word of slot p
 abbrev pub deviceAt : ℕ → ℕ
-deviceAt p = 278 + p * 16
+deviceAt p = typesAt + 256 + p * slotWords
+
+-- the number of words
+abbrev pub wordCount : ℕ
+wordCount = deviceAt slots
 
 -- where the mask of a kind lies in a device
 abbrev pub kindAt : Kind → ℕ
@@ -78,10 +86,10 @@ configIn ws =
       types = λ a. cond (ltb a 256) (getD ws (typesAt + a) 0) 0;
     }
 
--- the device at a place; there is none past the last place
+-- the device at a slot; there is none past the last slot
 unfoldable pub deviceIn : List ℕ → ℕ → Device
 deviceIn ws p =
-    cond (ltb p places)
+    cond (ltb p slots)
     (record {
       present = flag (getD ws (deviceAt p) 0);
       isOpen = flag (getD ws (deviceAt p + 1) 0);
@@ -105,15 +113,15 @@ wordsOf m = numbers 64 4 m 0
 unfoldable pub putFour : List ℕ → ℕ → List ℕ → List ℕ
 putFour ws k m = set (set (set (set ws k (getD m 0 0)) (k + 1) (getD m 1 0)) (k + 2) (getD m 2 0)) (k + 3) (getD m 3 0)
 
--- the words with the assigned mask of a kind of the device at place p replaced; past the last place there is none
+-- the words with the assigned mask of a kind of the device at slot p replaced; past the last slot there is none
 unfoldable pub putNumbers : List ℕ → ℕ → Kind → List ℕ → List ℕ
-putNumbers ws p k m = cond (ltb p places) (putFour ws (deviceAt p + kindAt k) m) ws
+putNumbers ws p k m = cond (ltb p slots) (putFour ws (deviceAt p + kindAt k) m) ws
 
--- the words with the device at place p opened or closed
+-- the words with the device at slot p opened or closed
 unfoldable pub putOpen : List ℕ → ℕ → Bool → List ℕ
-putOpen ws p o = cond (ltb p places) (set ws (deviceAt p + 1) (cond o 1 0)) ws
+putOpen ws p o = cond (ltb p slots) (set ws (deviceAt p + 1) (cond o 1 0)) ws
 
--- the id of an empty place
+-- the id of an empty slot
 abbrev pub noId : Id
 noId = record { hi = 0; lo = 0 }
 
@@ -121,10 +129,10 @@ noId = record { hi = 0; lo = 0 }
 abbrev pub zeros : List ℕ
 zeros = 0 ∷ 0 ∷ 0 ∷ 0 ∷ []
 
--- the words with place p given an id, or emptied: nothing assigned, not open
+-- the words with slot p given an id, or emptied: nothing assigned, not open
 unfoldable pub putDevice : List ℕ → ℕ → Bool → Id → List ℕ
 putDevice ws p present i =
-    cond (ltb p places)
+    cond (ltb p slots)
     (putFour (putFour (putFour (putFour ws (deviceAt p) (cond present 1 0 ∷ 0 ∷ i .hi ∷ i .lo ∷ [])) (deviceAt p + 4) zeros)
     (deviceAt p + 8) zeros) (deviceAt p + 12) zeros)
     ws
@@ -147,7 +155,7 @@ ones = 2 ^ 64 - 1
 -- the words of a fresh record
 unfoldable pub freshWords : ℕ → ℕ → List ℕ
 freshWords a d =
-    putFour (putFour (set (set (replicate 406 0) 0 a) 1 d) apmaskAt (ones ∷ ones ∷ ones ∷ ones ∷ [])) aqmaskAt (ones ∷ ones ∷ ones ∷ ones ∷ [])
+    putFour (putFour (set (set (replicate wordCount 0) 0 a) 1 d) apmaskAt (ones ∷ ones ∷ ones ∷ ones ∷ [])) aqmaskAt (ones ∷ ones ∷ ones ∷ ones ∷ [])
 
 -- the driver bytes with those of the queues that are no longer configured cleared
 unfoldable pub unbind : List ℕ → Bits → ℕ → List ℕ

@@ -13,38 +13,57 @@ ghost use Prim.Native.Nat.{_+_, _*_, _<_, min};
 ghost use mathlib.Core.Bool.{cond};
 ghost use lib.ListN.{getD, set, replicate};
 ghost use Rattle.mask.specs.Bits.{bits};
+ghost use Rattle.rules.specs.State.{queues};
 ghost use Rattle.rules.specs.Commands.{numbersOf};
 ghost use Rattle.record.specs.Held.{Held, Small};
-ghost use Rattle.record.specs.Layout.{four, limitsIn, hostIn, configIn, deviceIn, driverOf, byteOf, kindAt, apmaskAt, aqmaskAt};
+ghost use Rattle.record.specs.Layout.{wordCount, four, limitsIn, hostIn, configIn, deviceIn, driverOf, byteOf, kindAt, apmaskAt, aqmaskAt};
 ghost use Rattle.record.specs.Layout.{putFour, putNumbers, putOpen, putDevice, putTypes, putConfig, freshWords};
 
-// The number of places for devices.
-pub const PLACES: usize = 8;
+// The number of slots for mediated devices.
+pub const SLOTS: usize = 8;
 
-// The number of words: limits, host masks, configuration, types, and 16 for each device.
-pub const WORDS: usize = 406;
+// Where the parts lie: two limits, five masks of four words each, a hardware type for each of 256 adapters, the slots.
+const APMASK: usize = 2;
+const AQMASK: usize = 6;
+const ADAPTERS: usize = 10;
+const DOMAINS: usize = 14;
+const CONTROLS: usize = 18;
+const TYPES: usize = 22;
+const FIRST_SLOT: usize = 278;
+
+// The words of a slot.
+const SLOT_WORDS: usize = 16;
+
+// The number of words of a record.
+pub const WORDS: usize = FIRST_SLOT + SLOTS * SLOT_WORDS;
+
+// The number of queues, each of which has a driver byte.
+pub const QUEUES: usize = 65536;
+
+pub type Words = [u64; WORDS];
+pub type Drivers = [u8; QUEUES];
 
 // A reference to an array says how long it is only where it becomes a slice. These two do nothing but state that.
-pub fn hold_words(s: &[u64; WORDS])
-    ensures { λ r. ⌜ Held 64 406 (now (s .entry)) ⌝ }
+pub fn hold_words(words: &Words)
+    ensures { λ r. ⌜ Held 64 wordCount (now (words .entry)) ⌝ }
 {
-    small_words(s);
+    small_words(words);
 }
 
-pub fn hold_drivers(q: &[u8; 65536])
-    ensures { λ r. ⌜ Held 8 65536 (now (q .entry)) ⌝ }
+pub fn hold_drivers(drivers: &Drivers)
+    ensures { λ r. ⌜ Held 8 queues (now (drivers .entry)) ⌝ }
 {
-    small_bytes(q);
+    small_bytes(drivers);
 }
 
-fn small_words(s: &[u64])
-    ensures { λ r. ⌜ Small 64 (now (s .entry)) ⌝ }
+fn small_words(words: &[u64])
+    ensures { λ r. ⌜ Small 64 (now (words .entry)) ⌝ }
 {
     nothing();
 }
 
-fn small_bytes(s: &[u8])
-    ensures { λ r. ⌜ Small 8 (now (s .entry)) ⌝ }
+fn small_bytes(bytes: &[u8])
+    ensures { λ r. ⌜ Small 8 (now (bytes .entry)) ⌝ }
 {
     nothing();
 }
@@ -53,36 +72,36 @@ fn small_bytes(s: &[u8])
 fn nothing() {}
 
 // Four words as a mask.
-fn mask_at(s: &[u64; WORDS], k: usize) -> Mask
-    requires { ⌜ k + 3 < 406 ⌝ }
-    ensures { λ r. ⌜ r .words ≡ four (now (s .entry)) k ⌝ }
+fn mask_at(words: &Words, at: usize) -> Mask
+    requires { ⌜ at + 3 < wordCount ⌝ }
+    ensures { λ r. ⌜ r .words ≡ four (now (words .entry)) at ⌝ }
 {
     Mask {
-        words: [s[k], s[k + 1], s[k + 2], s[k + 3]],
+        words: [words[at], words[at + 1], words[at + 2], words[at + 3]],
     }
 }
 
-fn put_mask(s: &mut [u64; WORDS], k: usize, m: Mask)
-    requires { ⌜ k + 3 < 406 ⌝ }
-    ensures { λ r. ⌜ now (s .exit) ≡ putFour (now (s .entry)) k (m .words) ⌝ }
+fn put_mask(words: &mut Words, at: usize, mask: Mask)
+    requires { ⌜ at + 3 < wordCount ⌝ }
+    ensures { λ r. ⌜ now (words .exit) ≡ putFour (now (words .entry)) at (mask .words) ⌝ }
 {
-    let w = m.words;
-    s[k] = w[0];
-    s[k + 1] = w[1];
-    s[k + 2] = w[2];
-    s[k + 3] = w[3];
+    let w = mask.words;
+    words[at] = w[0];
+    words[at + 1] = w[1];
+    words[at + 2] = w[2];
+    words[at + 3] = w[3];
 }
 
-pub fn max_adapter(s: &[u64; WORDS]) -> u8
-    ensures { λ r. ⌜ r ≡ limitsIn (now (s .entry)) .adapter ⌝ }
+pub fn max_adapter(words: &Words) -> u8
+    ensures { λ r. ⌜ r ≡ limitsIn (now (words .entry)) .adapter ⌝ }
 {
-    limit(s[0])
+    limit(words[0])
 }
 
-pub fn max_domain(s: &[u64; WORDS]) -> u8
-    ensures { λ r. ⌜ r ≡ limitsIn (now (s .entry)) .domain ⌝ }
+pub fn max_domain(words: &Words) -> u8
+    ensures { λ r. ⌜ r ≡ limitsIn (now (words .entry)) .domain ⌝ }
 {
-    limit(s[1])
+    limit(words[1])
 }
 
 // A limit is at most 255.
@@ -92,161 +111,161 @@ fn limit(w: u64) -> u8
     if w < 255 { (w % 256) as u8 } else { 255 }
 }
 
-pub fn apmask(s: &[u64; WORDS]) -> Mask
-    ensures { λ r. ⌜ bits r ≡ hostIn (now (s .entry)) .apmask ⌝ }
+pub fn apmask(words: &Words) -> Mask
+    ensures { λ r. ⌜ bits r ≡ hostIn (now (words .entry)) .apmask ⌝ }
 {
-    mask_at(s, 2)
+    mask_at(words, APMASK)
 }
 
-pub fn aqmask(s: &[u64; WORDS]) -> Mask
-    ensures { λ r. ⌜ bits r ≡ hostIn (now (s .entry)) .aqmask ⌝ }
+pub fn aqmask(words: &Words) -> Mask
+    ensures { λ r. ⌜ bits r ≡ hostIn (now (words .entry)) .aqmask ⌝ }
 {
-    mask_at(s, 6)
+    mask_at(words, AQMASK)
 }
 
-pub fn configured_adapters(s: &[u64; WORDS]) -> Mask
-    ensures { λ r. ⌜ bits r ≡ configIn (now (s .entry)) .adapters ⌝ }
+pub fn configured_adapters(words: &Words) -> Mask
+    ensures { λ r. ⌜ bits r ≡ configIn (now (words .entry)) .adapters ⌝ }
 {
-    mask_at(s, 10)
+    mask_at(words, ADAPTERS)
 }
 
-pub fn configured_domains(s: &[u64; WORDS]) -> Mask
-    ensures { λ r. ⌜ bits r ≡ configIn (now (s .entry)) .domains ⌝ }
+pub fn configured_domains(words: &Words) -> Mask
+    ensures { λ r. ⌜ bits r ≡ configIn (now (words .entry)) .domains ⌝ }
 {
-    mask_at(s, 14)
+    mask_at(words, DOMAINS)
 }
 
-pub fn configured_controls(s: &[u64; WORDS]) -> Mask
-    ensures { λ r. ⌜ bits r ≡ configIn (now (s .entry)) .controls ⌝ }
+pub fn configured_controls(words: &Words) -> Mask
+    ensures { λ r. ⌜ bits r ≡ configIn (now (words .entry)) .controls ⌝ }
 {
-    mask_at(s, 18)
+    mask_at(words, CONTROLS)
 }
 
-pub fn hardware_type(s: &[u64; WORDS], a: Apid) -> u64
-    ensures { λ r. ⌜ r ≡ configIn (now (s .entry)) .types (a .0) ⌝ }
+pub fn hardware_type(words: &Words, adapter: Apid) -> u64
+    ensures { λ r. ⌜ r ≡ configIn (now (words .entry)) .types (adapter .0) ⌝ }
 {
-    s[22 + a.0 as usize]
+    words[TYPES + adapter.0 as usize]
 }
 
-// Whether there is a device at place p. Here and below there is none past the last place.
-pub fn present(s: &[u64; WORDS], p: usize) -> bool
-    ensures { λ r. ⌜ r ≡ deviceIn (now (s .entry)) p .present ⌝ }
+// Whether there is a device at slot p. Here and below there is none past the last slot.
+pub fn present(words: &Words, slot: usize) -> bool
+    ensures { λ r. ⌜ r ≡ deviceIn (now (words .entry)) slot .present ⌝ }
 {
-    if p < PLACES {
-        return s[278 + p * 16] != 0;
+    if slot < SLOTS {
+        return words[FIRST_SLOT + slot * SLOT_WORDS] != 0;
     }
     false
 }
 
-pub fn is_open(s: &[u64; WORDS], p: usize) -> bool
-    ensures { λ r. ⌜ r ≡ deviceIn (now (s .entry)) p .isOpen ⌝ }
+pub fn is_open(words: &Words, slot: usize) -> bool
+    ensures { λ r. ⌜ r ≡ deviceIn (now (words .entry)) slot .isOpen ⌝ }
 {
-    if p < PLACES {
-        return s[278 + p * 16 + 1] != 0;
+    if slot < SLOTS {
+        return words[FIRST_SLOT + slot * SLOT_WORDS + 1] != 0;
     }
     false
 }
 
-pub fn id(s: &[u64; WORDS], p: usize) -> Id
-    ensures { λ r. ⌜ r ≡ deviceIn (now (s .entry)) p .id ⌝ }
+pub fn id(words: &Words, slot: usize) -> Id
+    ensures { λ r. ⌜ r ≡ deviceIn (now (words .entry)) slot .id ⌝ }
 {
-    if p < PLACES {
+    if slot < SLOTS {
         return Id {
-            hi: s[278 + p * 16 + 2],
-            lo: s[278 + p * 16 + 3],
+            hi: words[FIRST_SLOT + slot * SLOT_WORDS + 2],
+            lo: words[FIRST_SLOT + slot * SLOT_WORDS + 3],
         };
     }
     Id { hi: 0, lo: 0 }
 }
 
-// The assigned adapters, domains or control domains of the device at place p.
-pub fn numbers(s: &[u64; WORDS], p: usize, k: Kind) -> Mask
-    ensures { λ r. ⌜ bits r ≡ numbersOf k (deviceIn (now (s .entry)) p) ⌝ }
+// The assigned adapters, domains or control domains of the device at slot p.
+pub fn numbers(words: &Words, slot: usize, kind: Kind) -> Mask
+    ensures { λ r. ⌜ bits r ≡ numbersOf kind (deviceIn (now (words .entry)) slot) ⌝ }
 {
-    if p < PLACES {
-        return mask_at(s, 278 + p * 16 + kind_at(k));
+    if slot < SLOTS {
+        return mask_at(words, FIRST_SLOT + slot * SLOT_WORDS + kind_at(kind));
     }
     Mask::empty()
 }
 
-fn kind_at(k: Kind) -> usize
-    ensures { λ r. ⌜ r ≡ kindAt k ⌝ }
+fn kind_at(kind: Kind) -> usize
+    ensures { λ r. ⌜ r ≡ kindAt kind ⌝ }
 {
-    match k {
+    match kind {
         Kind::Adapter => 4,
         Kind::Domain => 8,
         Kind::Control => 12,
     }
 }
 
-pub fn put_apmask(s: &mut [u64; WORDS], m: Mask)
-    ensures { λ r. ⌜ now (s .exit) ≡ putFour (now (s .entry)) apmaskAt (m .words) ⌝ }
+pub fn put_apmask(words: &mut Words, mask: Mask)
+    ensures { λ r. ⌜ now (words .exit) ≡ putFour (now (words .entry)) apmaskAt (mask .words) ⌝ }
 {
-    put_mask(s, 2, m);
+    put_mask(words, APMASK, mask);
 }
 
-pub fn put_aqmask(s: &mut [u64; WORDS], m: Mask)
-    ensures { λ r. ⌜ now (s .exit) ≡ putFour (now (s .entry)) aqmaskAt (m .words) ⌝ }
+pub fn put_aqmask(words: &mut Words, mask: Mask)
+    ensures { λ r. ⌜ now (words .exit) ≡ putFour (now (words .entry)) aqmaskAt (mask .words) ⌝ }
 {
-    put_mask(s, 6, m);
+    put_mask(words, AQMASK, mask);
 }
 
-pub fn put_numbers(s: &mut [u64; WORDS], p: usize, k: Kind, m: Mask)
-    ensures { λ r. ⌜ now (s .exit) ≡ putNumbers (now (s .entry)) p k (m .words) ⌝ }
+pub fn put_numbers(words: &mut Words, slot: usize, kind: Kind, mask: Mask)
+    ensures { λ r. ⌜ now (words .exit) ≡ putNumbers (now (words .entry)) slot kind (mask .words) ⌝ }
 {
-    if p < PLACES {
-        put_mask(s, 278 + p * 16 + kind_at(k), m);
+    if slot < SLOTS {
+        put_mask(words, FIRST_SLOT + slot * SLOT_WORDS + kind_at(kind), mask);
     }
 }
 
-pub fn put_open(s: &mut [u64; WORDS], p: usize, opened: bool)
-    ensures { λ r. ⌜ now (s .exit) ≡ putOpen (now (s .entry)) p opened ⌝ }
+pub fn put_open(words: &mut Words, slot: usize, opened: bool)
+    ensures { λ r. ⌜ now (words .exit) ≡ putOpen (now (words .entry)) slot opened ⌝ }
 {
-    if p < PLACES {
-        s[278 + p * 16 + 1] = if opened { 1 } else { 0 };
+    if slot < SLOTS {
+        words[FIRST_SLOT + slot * SLOT_WORDS + 1] = if opened { 1 } else { 0 };
     }
 }
 
-// Gives place p to a device with an id, or empties it: nothing is assigned, and it is not open.
-pub fn put_device(s: &mut [u64; WORDS], p: usize, present: bool, i: Id)
-    ensures { λ r. ⌜ now (s .exit) ≡ putDevice (now (s .entry)) p present i ⌝ }
+// Gives slot p to a device with an id, or empties it: nothing is assigned, and it is not open.
+pub fn put_device(words: &mut Words, slot: usize, present: bool, id: Id)
+    ensures { λ r. ⌜ now (words .exit) ≡ putDevice (now (words .entry)) slot present id ⌝ }
 {
-    if p < PLACES {
-        let k = 278 + p * 16;
+    if slot < SLOTS {
+        let k = FIRST_SLOT + slot * SLOT_WORDS;
         let zeros = Mask { words: [0u64; 4] };
         let first = if present { 1u64 } else { 0u64 };
         put_mask(
-            s,
+            words,
             k,
             Mask {
-                words: [first, 0, i.hi, i.lo],
+                words: [first, 0, id.hi, id.lo],
             },
         );
-        put_mask(s, k + 4, zeros);
-        put_mask(s, k + 8, zeros);
-        put_mask(s, k + 12, zeros);
+        put_mask(words, k + 4, zeros);
+        put_mask(words, k + 8, zeros);
+        put_mask(words, k + 12, zeros);
     }
 }
 
-pub fn put_configuration(s: &mut [u64; WORDS], c: Configuration)
-    ensures { λ r. ⌜ now (s .exit) ≡ putConfig (now (s .entry)) c ⌝ }
+pub fn put_configuration(words: &mut Words, configuration: Configuration)
+    ensures { λ r. ⌜ now (words .exit) ≡ putConfig (now (words .entry)) configuration ⌝ }
 {
-    let adapters = c.adapters;
-    let domains = c.domains;
-    let controls = c.controls;
-    let types = c.types;
-    put_mask(s, 10, adapters);
-    put_mask(s, 14, domains);
-    put_mask(s, 18, controls);
-    put_types(s, adapters, types);
+    let adapters = configuration.adapters;
+    let domains = configuration.domains;
+    let controls = configuration.controls;
+    let types = configuration.types;
+    put_mask(words, ADAPTERS, adapters);
+    put_mask(words, DOMAINS, domains);
+    put_mask(words, CONTROLS, controls);
+    put_types(words, adapters, types);
 }
 
-fn put_types(s: &mut [u64; WORDS], adapters: Mask, types: [u8; 256])
-    ensures { λ r. ⌜ now (s .exit) ≡ putTypes (now (s .entry)) (λ a. cond (bits adapters a) (getD types a 0) 0) 256 ⌝ }
+fn put_types(words: &mut Words, adapters: Mask, types: [u8; 256])
+    ensures { λ r. ⌜ now (words .exit) ≡ putTypes (now (words .entry)) (λ a. cond (bits adapters a) (getD types a 0) 0) 256 ⌝ }
 {
     let mut a = 0usize;
     while a < 256 {
-        s[22 + a] = type_of(adapters.has((a % 256) as u8), types[a]);
+        words[TYPES + a] = type_of(adapters.has((a % 256) as u8), types[a]);
         a += 1;
     }
 }
@@ -258,27 +277,27 @@ fn type_of(configured: bool, t: u8) -> u64
 }
 
 // A fresh record: both host masks all ones, nothing configured, no device.
-pub fn put_fresh(s: &mut [u64; WORDS], adapter: u8, domain: u8)
-    ensures { λ r. ⌜ now (s .exit) ≡ freshWords adapter domain ⌝ }
+pub fn put_fresh(words: &mut Words, adapter: u8, domain: u8)
+    ensures { λ r. ⌜ now (words .exit) ≡ freshWords adapter domain ⌝ }
 {
     let ones = Mask {
         words: [u64::MAX; 4],
     };
-    put_nothing(s);
-    s[0] = adapter as u64;
-    s[1] = domain as u64;
-    put_mask(s, 2, ones);
-    put_mask(s, 6, ones);
+    put_nothing(words);
+    words[0] = adapter as u64;
+    words[1] = domain as u64;
+    put_mask(words, APMASK, ones);
+    put_mask(words, AQMASK, ones);
 }
 
 // No device and an empty configuration, with hardware type 0 for all 256 adapters.
-fn put_nothing(s: &mut [u64; WORDS])
-    ensures { λ r. ⌜ now (s .exit) ≡ replicate 406 0 ⌝ }
+fn put_nothing(words: &mut Words)
+    ensures { λ r. ⌜ now (words .exit) ≡ replicate wordCount 0 ⌝ }
 {
-    *s = [0u64; WORDS];
+    *words = [0u64; WORDS];
     let none = Mask { words: [0u64; 4] };
     put_configuration(
-        s,
+        words,
         Configuration {
             adapters: none,
             domains: none,
@@ -288,10 +307,10 @@ fn put_nothing(s: &mut [u64; WORDS])
     );
 }
 
-pub fn driver(q: &[u8; 65536], a: Apid, d: Apqi) -> Driver
-    ensures { λ r. ⌜ r ≡ driverOf (getD (now (q .entry)) (a .0 * 256 + d .0) 0) ⌝ }
+pub fn driver(drivers: &Drivers, adapter: Apid, domain: Apqi) -> Driver
+    ensures { λ r. ⌜ r ≡ driverOf (getD (now (drivers .entry)) (adapter .0 * 256 + domain .0) 0) ⌝ }
 {
-    let b = q[a.0 as usize * 256 + d.0 as usize];
+    let b = drivers[adapter.0 as usize * 256 + domain.0 as usize];
     if b == 1 {
         return Driver::Host;
     }
@@ -301,13 +320,13 @@ pub fn driver(q: &[u8; 65536], a: Apid, d: Apqi) -> Driver
     Driver::Unbound
 }
 
-pub fn put_driver(q: &mut [u8; 65536], a: Apid, d: Apqi, v: Driver)
-    ensures { λ r. ⌜ now (q .exit) ≡ set (now (q .entry)) (a .0 * 256 + d .0) (byteOf v) ⌝ }
+pub fn put_driver(drivers: &mut Drivers, adapter: Apid, domain: Apqi, driver: Driver)
+    ensures { λ r. ⌜ now (drivers .exit) ≡ set (now (drivers .entry)) (adapter .0 * 256 + domain .0) (byteOf driver) ⌝ }
 {
-    let b = match v {
+    let b = match driver {
         Driver::Unbound => 0u8,
         Driver::Host => 1u8,
         Driver::Passthrough => 2u8,
     };
-    q[a.0 as usize * 256 + d.0 as usize] = b;
+    drivers[adapter.0 as usize * 256 + domain.0 as usize] = b;
 }

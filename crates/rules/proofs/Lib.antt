@@ -1,5 +1,5 @@
 pub mod Products
-pub mod Places
+pub mod First
 pub mod Sums
 pub mod Moves
 pub mod Refusals

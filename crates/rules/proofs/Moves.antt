@@ -25,7 +25,6 @@ spent BoundPassthrough = 1
 
 -- a queue needs at most two moves
 pub due-le : (d t : Driver) → due d t ≤ 2
-unfolding due
 due-le Unbound Unbound = omega arith
 due-le Unbound Host = omega arith
 due-le Unbound Passthrough = omega arith
@@ -38,7 +37,7 @@ due-le Passthrough Passthrough = omega arith
 
 -- a move that is not idle leaves one move less
 pub due-after : (d t : Driver) → due (after d (moved d t)) t + spent (moved d t) ≡ due d t
-unfolding due after moved spent
+unfolding after spent
 due-after Unbound Unbound = refl
 due-after Unbound Host = refl
 due-after Unbound Passthrough = refl
@@ -51,7 +50,7 @@ due-after Passthrough Passthrough = refl
 
 -- a move is idle exactly where none is due
 pub spent-due : (d t : Driver) → spent (moved d t) ≡ min 1 (due d t)
-unfolding due moved spent
+unfolding spent
 spent-due Unbound Unbound = refl
 spent-due Unbound Host = refl
 spent-due Unbound Passthrough = refl

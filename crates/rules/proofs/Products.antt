@@ -11,7 +11,7 @@ use lib.Arith.{digits-div, digits-mod}
 use borrow.Author.Tests.{ne-eqb}
 use Rattle.mask.specs.Bits.{Bits, someBelow, both}
 use Rattle.mask.proofs.Laws.{same-test, some-intro, some-elim, some-exactly, some-cong, none-some, some-none}
-use Rattle.rules.specs.State.{Devices, inProduct, places, queues}
+use Rattle.rules.specs.State.{Devices, inProduct, slots, queues}
 use Rattle.rules.specs.Commands.{product, assigned, assignedElsewhere}
 
 -- a bit that is in both
@@ -101,23 +101,23 @@ pub some-and : (k : ℕ) (b : Bool) (f : Bits) → (b && someBelow k f) ≡ some
 some-and k true f = refl
 some-and k false f = sym (none-some k (λ j. false) (λ i h. refl))
 
--- the queues assigned to a device other than one that has no place are those assigned to any
-pub elsewhere-anywhere : (vs : Devices) → assignedElsewhere places vs ≡ assigned vs
+-- the queues assigned to a device other than one that has no slot are those assigned to any
+pub elsewhere-anywhere : (vs : Devices) → assignedElsewhere slots vs ≡ assigned vs
 unfolding assigned assignedElsewhere
 elsewhere-anywhere vs =
-    fun-ext (λ q. some-cong places (λ j. not (eqb j places) && product (vs j) q) (λ j. product (vs j) q)
-    (λ j h. ap (λ (b : Bool). not b && product (vs j) q) (ne-eqb j places (λ e. omega arith))))
+    fun-ext (λ q. some-cong slots (λ j. not (eqb j slots) && product (vs j) q) (λ j. product (vs j) q)
+    (λ j h. ap (λ (b : Bool). not b && product (vs j) q) (ne-eqb j slots (λ e. omega arith))))
 
 -- a product shares a queue with another device's exactly when some device elsewhere has a product that meets it
 pub taken-by : (p : ℕ) (vs : Devices) (us ds : Bits)
     → someBelow queues (both (inProduct us ds) (assignedElsewhere p vs))
-    ≡ someBelow places (λ j. not (eqb j p) && (vs j .present && (someBelow 256 (both us (vs j .adapters)) && someBelow 256 (both ds (vs j .domains)))))
+    ≡ someBelow slots (λ j. not (eqb j p) && (vs j .present && (someBelow 256 (both us (vs j .adapters)) && someBelow 256 (both ds (vs j .domains)))))
 unfolding both assignedElsewhere product
 taken-by p vs us ds =
-    some-cong queues (λ q. inProduct us ds q && someBelow places (λ j. here j q)) (λ q. someBelow places (λ j. inProduct us ds q && here j q))
-    (λ q h. some-and places (inProduct us ds q) (λ j. here j q))
-    ∙ some-swap queues places (λ j q. inProduct us ds q && here j q)
-    ∙ some-cong places (λ j. someBelow queues (λ q. inProduct us ds q && here j q)) (λ j. there j) (λ j h. one j (not (eqb j p)) (vs j .present))
+    some-cong queues (λ q. inProduct us ds q && someBelow slots (λ j. here j q)) (λ q. someBelow slots (λ j. inProduct us ds q && here j q))
+    (λ q h. some-and slots (inProduct us ds q) (λ j. here j q))
+    ∙ some-swap queues slots (λ j q. inProduct us ds q && here j q)
+    ∙ some-cong slots (λ j. someBelow queues (λ q. inProduct us ds q && here j q)) (λ j. there j) (λ j h. one j (not (eqb j p)) (vs j .present))
   where
     here : ℕ → Bits
     here j q = not (eqb j p) && (vs j .present && inProduct (vs j .adapters) (vs j .domains) q)

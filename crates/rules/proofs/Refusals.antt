@@ -10,16 +10,18 @@ use mathlib.Core.Logic.{_↔_, _⊎_, inl, inr}
 use lib.Dec.{eqb, ltb, leb}
 use borrow.Author.Tests.{lt-ltb, le-leb, eqb-true}
 use Rattle.errno.specs.Outcome.{Outcome, granted, refused}
+use Rattle.errno.specs.Errno.{numberOf}
+use Rattle.errno.specs.declared.Errno.the-variants.{Enoent, Enodev, Eaddrinuse, Eaddrnotavail}
 use Rattle.mask.specs.Bits.{Bits, someBelow, both, noBits, included}
 use Rattle.mask.proofs.Laws.{some-elim, some-intro, some-none}
 use Rattle.number.specs.Text.{numberText}
 use Rattle.rules.specs.declared.Id.{Id}
 use Rattle.rules.specs.declared.Kind.{Kind}
 use Rattle.rules.specs.declared.Kind.the-variants.{Adapter, Domain, Control}
-use Rattle.rules.specs.State.{Device, Devices, State, places, queues, inProduct}
+use Rattle.rules.specs.State.{Device, Devices, State, slots, queues, inProduct}
 use Rattle.rules.specs.Queues.{reserved}
-use Rattle.rules.specs.Commands.{errnoOf, placeOf, product, assignedElsewhere, reading, onDevice, numbersOf, withNumbers, limitOf, single, paired, adds, adding, assignAt, assign, withDevice, sameId, firstFrom}
-use Rattle.rules.proofs.Places.{first-holds}
+use Rattle.rules.specs.Commands.{errnoOf, slotOf, product, assignedElsewhere, reading, onDevice, numbersOf, withNumbers, limitOf, single, paired, adds, adding, assignAt, assign, withDevice, sameId, firstFrom}
+use Rattle.rules.proofs.First.{first-holds}
 use Rattle.rules.proofs.Products.{both-left, both-right, in-both}
 
 -- ---- what a new number adds is what it pairs with
@@ -38,12 +40,12 @@ new-domain false true true h = refl
 new-domain false true false h = refl
 new-domain false false d h = refl
 
--- the place of a known id holds a device
-pub place-present : (i : Id) (vs : Devices) → placeOf i vs < places → vs (placeOf i vs) .present ≡ true
-unfolding placeOf
-place-present i vs h =
-    let p = firstFrom places 0 (λ p. vs p .present && sameId i (vs p .id)) in
-    and-eq-true-iff (vs p .present) (sameId i (vs p .id)) .0 (first-holds places 0 (λ p. vs p .present && sameId i (vs p .id)) (omega arith)) .0
+-- the slot of a known id holds a device
+pub slot-present : (i : Id) (vs : Devices) → slotOf i vs < slots → vs (slotOf i vs) .present ≡ true
+unfolding slotOf
+slot-present i vs h =
+    let p = firstFrom slots 0 (λ p. vs p .present && sameId i (vs p .id)) in
+    and-eq-true-iff (vs p .present) (sameId i (vs p .id)) .0 (first-holds slots 0 (λ p. vs p .present && sameId i (vs p .id)) (omega arith)) .0
 
 -- what a new number adds is what it pairs with
 pub adds-paired : (k : Kind) (n : ℕ) (v : Device) → v .present ≡ true → numbersOf k v n ≡ false → (q : ℕ) → adds k n v q ≡ paired k n v q
@@ -95,8 +97,8 @@ module _ (k : Kind) (n p : ℕ) (s : State) (e : s .device p .present ≡ true) 
   -- on what the tests of `adding` find
   clashes : numbersOf k (s .device p) n ≡ false → (x y : Bool) → someBelow queues (both new (reserved (s .host))) ≡ x
       → someBelow queues (both new (assignedElsewhere p (s .device))) ≡ y
-      → ((errnoOf (cond x (refused 99) (cond y (refused 98) (granted added))) ≡ 0 → ⊥) ↔ Clash k n p s)
-  unfolding errnoOf Clash new
+      → ((errnoOf (cond x (refused Eaddrnotavail) (cond y (refused Eaddrinuse) (granted added))) ≡ 0 → ⊥) ↔ Clash k n p s)
+  unfolding errnoOf numberOf Clash new
   clashes h true y hx hy = (
     λ f. let g = some-elim queues (both new (reserved (s .host))) hx in (
       g .0,
@@ -129,22 +131,22 @@ module _ (k : Kind) (n p : ℕ) (s : State) (e : s .device p .present ≡ true) 
           true≢false (sym (in-both new (assignedElsewhere p (s .device)) (c .0) (sym (adds-paired k n (s .device p) e h (c .0)) ∙ c .2) r)
           ∙ some-none queues (both new (assignedElsewhere p (s .device))) hy (c .0) (c .1))
 
-  at-place : (b : Bool) → numbersOf k (s .device p) n ≡ b
+  at-slot : (b : Bool) → numbersOf k (s .device p) n ≡ b
       → ((errnoOf (cond b (granted s) (adding new p s added)) ≡ 0 → ⊥) ↔ Clash k n p s)
   unfolding errnoOf Clash adding
-  at-place true h = (λ f. absurd (f refl), λ c z. true≢false (sym (c .2) ∙ adds-none k n (s .device p) h (c .0)))
-  at-place false h =
+  at-slot true h = (λ f. absurd (f refl), λ c z. true≢false (sym (c .2) ∙ adds-none k n (s .device p) h (c .0)))
+  at-slot false h =
       clashes h (someBelow queues (both new (reserved (s .host)))) (someBelow queues (both new (assignedElsewhere p (s .device)))) refl refl
 
 -- an assignment to a known device, in range
-pub refused-exactly : (k : Kind) (i : Id) (text : List ℕ) (s : State) (n : ℕ) → numberText text ≡ granted n → placeOf i (s .device) < places
-    → n ≤ limitOf k (s .limits) → ((errnoOf (assign k i text s) ≡ 0 → ⊥) ↔ Clash k n (placeOf i (s .device)) s)
+pub refused-exactly : (k : Kind) (i : Id) (text : List ℕ) (s : State) (n : ℕ) → numberText text ≡ granted n → slotOf i (s .device) < slots
+    → n ≤ limitOf k (s .limits) → ((errnoOf (assign k i text s) ≡ 0 → ⊥) ↔ Clash k n (slotOf i (s .device)) s)
 unfolding assign reading onDevice assignAt new added
 refused-exactly k i text s n t h l =
-    let p = placeOf i (s .device) in
-    subst (λ (o : Outcome ℕ). (errnoOf (reading o (λ m. cond (ltb p places) (cond (leb m (limitOf k (s .limits))) (assignAt k m p s) (refused 19)) (refused 2))) ≡ 0 → ⊥) ↔ Clash k n p s)
+    let p = slotOf i (s .device) in
+    subst (λ (o : Outcome ℕ). (errnoOf (reading o (λ m. cond (ltb p slots) (cond (leb m (limitOf k (s .limits))) (assignAt k m p s) (refused Enodev)) (refused Enoent))) ≡ 0 → ⊥) ↔ Clash k n p s)
     (sym t)
-    (subst (λ (b : Bool). (errnoOf (cond b (cond (leb n (limitOf k (s .limits))) (assignAt k n p s) (refused 19)) (refused 2)) ≡ 0 → ⊥) ↔ Clash k n p s)
-    (sym (lt-ltb p places h))
-    (subst (λ (b : Bool). (errnoOf (cond b (assignAt k n p s) (refused 19)) ≡ 0 → ⊥) ↔ Clash k n p s) (sym (le-leb n (limitOf k (s .limits)) l))
-    (at-place k n p s (place-present i (s .device) h) (numbersOf k (s .device p) n) refl)))
+    (subst (λ (b : Bool). (errnoOf (cond b (cond (leb n (limitOf k (s .limits))) (assignAt k n p s) (refused Enodev)) (refused Enoent)) ≡ 0 → ⊥) ↔ Clash k n p s)
+    (sym (lt-ltb p slots h))
+    (subst (λ (b : Bool). (errnoOf (cond b (assignAt k n p s) (refused Enodev)) ≡ 0 → ⊥) ↔ Clash k n p s) (sym (le-leb n (limitOf k (s .limits)) l))
+    (at-slot k n p s (slot-present i (s .device) h) (numbersOf k (s .device p) n) refl)))

@@ -6,6 +6,7 @@ use mathlib.Core.List.{List}
 use lib.ListN.{getD}
 use lib.Dec.{eqb, ltb, leb}
 use Rattle.errno.specs.Outcome.{Outcome, granted, refused}
+use Rattle.errno.specs.declared.Errno.the-variants.{Enoent, Ebusy, Eexist, Enodev, Einval, Enospc, Eaddrinuse, Eaddrnotavail}
 use Rattle.errno.specs.Errno.{numberOf}
 use Rattle.mask.specs.Bits.{Bits, bits, noBits, someBelow, both, bitsAbove, included, excluded}
 use Rattle.number.specs.Text.{numberText}
@@ -18,7 +19,7 @@ use Rattle.rules.specs.declared.Answer.the-variants.{Done, Refused}
 use Rattle.rules.specs.declared.Configuration.{Configuration}
 use Rattle.rules.specs.declared.Kind.{Kind}
 use Rattle.rules.specs.declared.Kind.the-variants.{Adapter, Domain, Control}
-use Rattle.rules.specs.State.{Limits, HostMasks, Config, Device, Devices, State, places, queues, inProduct, noDevice}
+use Rattle.rules.specs.State.{Limits, HostMasks, Config, Device, Devices, State, slots, queues, inProduct, noDevice}
 use Rattle.rules.specs.Queues.{reserved, configured}
 
 -- the errno value of an answer; 0 is no refusal
@@ -29,7 +30,7 @@ answered (Refused e) = numberOf e
 -- the errno value of an outcome; 0 is no refusal
 unfoldable pub errnoOf : Outcome State → ℕ
 errnoOf (granted s) = 0
-errnoOf (refused e) = e
+errnoOf (refused e) = numberOf e
 
 -- the state after a command: a refused one changes nothing
 unfoldable pub stateAfter : State → Outcome State → State
@@ -45,15 +46,15 @@ unfoldable pub firstFrom : ℕ → ℕ → Bits → ℕ
 firstFrom zero k p = k
 firstFrom (suc n) k p = cond (p k) k (firstFrom n (suc k) p)
 
--- the place of the device with an id: the first of two that have it; `places` where there is none
-unfoldable pub placeOf : Id → Devices → ℕ
-placeOf i vs = firstFrom places 0 (λ p. vs p .present && sameId i (vs p .id))
+-- the slot of the device with an id: the first of two that have it; `slots` where there is none
+unfoldable pub slotOf : Id → Devices → ℕ
+slotOf i vs = firstFrom slots 0 (λ p. vs p .present && sameId i (vs p .id))
 
--- the lowest free place; `places` where there is none
-unfoldable pub freePlace : Devices → ℕ
-freePlace vs = firstFrom places 0 (λ p. not (vs p .present))
+-- the lowest free slot; `slots` where there is none
+unfoldable pub freeSlot : Devices → ℕ
+freeSlot vs = firstFrom slots 0 (λ p. not (vs p .present))
 
--- the state with the device at place p replaced
+-- the state with the device at slot p replaced
 unfoldable pub withDevice : ℕ → Device → State → State
 withDevice p v s =
     record { limits = s .limits; host = s .host; config = s .config; device = λ j. cond (eqb j p) v (s .device j); driver = s .driver }
@@ -68,11 +69,11 @@ product v q = v .present && inProduct (v .adapters) (v .domains) q
 
 -- the queues that are assigned to some device
 unfoldable pub assigned : Devices → Bits
-assigned vs q = someBelow places (λ p. product (vs p) q)
+assigned vs q = someBelow slots (λ p. product (vs p) q)
 
--- the queues that are assigned to another device than the one at place p
+-- the queues that are assigned to another device than the one at slot p
 unfoldable pub assignedElsewhere : ℕ → Devices → Bits
-assignedElsewhere p vs q = someBelow places (λ j. not (eqb j p) && product (vs j) q)
+assignedElsewhere p vs q = someBelow slots (λ j. not (eqb j p) && product (vs j) q)
 
 -- what comes of good text; bad text is refused before anything else is checked
 unfoldable pub reading : {A : Type 0} → Outcome A → (A → Outcome State) → Outcome State
@@ -81,7 +82,7 @@ reading (refused e) next = refused e
 
 -- a command for the device with an id: ENOENT where there is none
 unfoldable pub onDevice : Id → State → (ℕ → Outcome State) → Outcome State
-onDevice i s next = cond (ltb (placeOf i (s .device)) places) (next (placeOf i (s .device))) (refused 2)
+onDevice i s next = cond (ltb (slotOf i (s .device)) slots) (next (slotOf i (s .device))) (refused Enoent)
 
 -- a device that is given an id: nothing assigned, not open
 unfoldable pub newDevice : Id → Device
@@ -95,20 +96,20 @@ withOpen o v =
 -- create: EEXIST, then ENOSPC
 unfoldable pub create : Id → State → Outcome State
 create i s =
-    cond (ltb (placeOf i (s .device)) places) (refused 17)
-    (cond (ltb (freePlace (s .device)) places) (granted (withDevice (freePlace (s .device)) (newDevice i) s)) (refused 28))
+    cond (ltb (slotOf i (s .device)) slots) (refused Eexist)
+    (cond (ltb (freeSlot (s .device)) slots) (granted (withDevice (freeSlot (s .device)) (newDevice i) s)) (refused Enospc))
 
 -- remove: ENOENT, then EBUSY if open
 unfoldable pub remove : Id → State → Outcome State
-remove i s = onDevice i s (λ p. cond (s .device p .isOpen) (refused 16) (granted (withDevice p noDevice s)))
+remove i s = onDevice i s (λ p. cond (s .device p .isOpen) (refused Ebusy) (granted (withDevice p noDevice s)))
 
 -- open: ENOENT, then EBUSY if open
 unfoldable pub openDevice : Id → State → Outcome State
-openDevice i s = onDevice i s (λ p. cond (s .device p .isOpen) (refused 16) (granted (withDevice p (withOpen true (s .device p)) s)))
+openDevice i s = onDevice i s (λ p. cond (s .device p .isOpen) (refused Ebusy) (granted (withDevice p (withOpen true (s .device p)) s)))
 
 -- close: ENOENT, then EINVAL if not open
 unfoldable pub closeDevice : Id → State → Outcome State
-closeDevice i s = onDevice i s (λ p. cond (s .device p .isOpen) (granted (withDevice p (withOpen false (s .device p)) s)) (refused 22))
+closeDevice i s = onDevice i s (λ p. cond (s .device p .isOpen) (granted (withDevice p (withOpen false (s .device p)) s)) (refused Einval))
 
 -- the assigned numbers of a kind
 unfoldable pub numbersOf : Kind → Device → Bits
@@ -145,10 +146,10 @@ adds k n v q = product (withNumbers k (included n (numbersOf k v)) v) q && not (
 -- a queue to be added is reserved: EADDRNOTAVAIL; then: is assigned elsewhere: EADDRINUSE
 unfoldable pub adding : Bits → ℕ → State → State → Outcome State
 adding new p s t =
-    cond (someBelow queues (both new (reserved (s .host)))) (refused 99)
-    (cond (someBelow queues (both new (assignedElsewhere p (s .device)))) (refused 98) (granted t))
+    cond (someBelow queues (both new (reserved (s .host)))) (refused Eaddrnotavail)
+    (cond (someBelow queues (both new (assignedElsewhere p (s .device)))) (refused Eaddrinuse) (granted t))
 
--- assign a number that is in range to the device at place p; what is assigned is accepted and changes nothing
+-- assign a number that is in range to the device at slot p; what is assigned is accepted and changes nothing
 unfoldable pub assignAt : Kind → ℕ → ℕ → State → Outcome State
 assignAt k n p s =
     cond (numbersOf k (s .device p) n) (granted s)
@@ -157,7 +158,7 @@ assignAt k n p s =
 -- assign: the text, ENOENT, ENODEV, EADDRNOTAVAIL, EADDRINUSE
 unfoldable pub assign : Kind → Id → List ℕ → State → Outcome State
 assign k i text s =
-    reading (numberText text) (λ n. onDevice i s (λ p. cond (leb n (limitOf k (s .limits))) (assignAt k n p s) (refused 19)))
+    reading (numberText text) (λ n. onDevice i s (λ p. cond (leb n (limitOf k (s .limits))) (assignAt k n p s) (refused Enodev)))
 
 -- unassign: the text, ENOENT, ENODEV
 unfoldable pub unassign : Kind → Id → List ℕ → State → Outcome State
@@ -166,11 +167,11 @@ unassign k i text s =
     (λ n. onDevice i s
     (λ p. cond (leb n (limitOf k (s .limits)))
     (granted (withDevice p (withNumbers k (excluded n (numbersOf k (s .device p))) (s .device p)) s))
-    (refused 19)))
+    (refused Enodev)))
 
 -- new host masks: EADDRINUSE exactly if a queue reserved under them is assigned
 unfoldable pub setHost : HostMasks → State → Outcome State
-setHost h s = cond (someBelow queues (both (reserved h) (assigned (s .device)))) (refused 98) (granted (withHost h s))
+setHost h s = cond (someBelow queues (both (reserved h) (assigned (s .device)))) (refused Eaddrinuse) (granted (withHost h s))
 
 -- set apmask: the text, EADDRINUSE
 unfoldable pub setApmask : List ℕ → State → Outcome State
@@ -209,4 +210,4 @@ withConfig c s =
 
 -- set configuration: ENODEV
 unfoldable pub configure : Configuration → State → Outcome State
-configure c s = cond (beyondLimits (s .limits) c) (refused 19) (granted (withConfig (stored c) s))
+configure c s = cond (beyondLimits (s .limits) c) (refused Enodev) (granted (withConfig (stored c) s))

@@ -29,7 +29,7 @@ abbrev pub target : State → ℕ → Driver
 target s = targetOf (s .host) (s .config)
 
 -- what a move does, by the queue's driver and its target
-unfoldable pub moved : Driver → Driver → Moved
+abbrev pub moved : Driver → Driver → Moved
 moved Unbound Unbound = Idle
 moved Unbound Host = BoundHost
 moved Unbound Passthrough = BoundPassthrough
@@ -40,6 +40,13 @@ moved Passthrough Unbound = Released
 moved Passthrough Host = Released
 moved Passthrough Passthrough = Idle
 
+-- a move's answer as a number
+abbrev pub movedNumber : Moved → ℕ
+movedNumber Idle = 0
+movedNumber Released = 1
+movedNumber BoundHost = 2
+movedNumber BoundPassthrough = 3
+
 -- the driver after a move that found the driver d
 unfoldable pub after : Driver → Moved → Driver
 after d Idle = d
@@ -48,7 +55,7 @@ after d BoundHost = Host
 after d BoundPassthrough = Passthrough
 
 -- the moves that a queue still needs, by its driver and its target
-unfoldable pub due : Driver → Driver → ℕ
+abbrev pub due : Driver → Driver → ℕ
 due Unbound Unbound = 0
 due Unbound Host = 1
 due Unbound Passthrough = 1

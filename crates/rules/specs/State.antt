@@ -9,9 +9,9 @@ use Rattle.rules.specs.declared.Driver.{Driver}
 use Rattle.rules.specs.declared.Driver.the-variants.{Unbound, Host, Passthrough}
 use Rattle.rules.specs.declared.Id.{Id}
 
--- the number of places for mediated devices
-abbrev pub places : ℕ
-places = 8
+-- the number of slots for mediated devices
+abbrev pub slots : ℕ
+slots = 8
 
 -- the number of queues
 abbrev pub queues : ℕ
@@ -34,7 +34,7 @@ pub record Config : Type 0 where
   pub controls : Bits
   pub types : ℕ → ℕ
 
--- a place for a mediated device
+-- a slot for a mediated device
 pub record Device : Type 0 where
   pub present : Bool
   pub isOpen : Bool
@@ -43,7 +43,7 @@ pub record Device : Type 0 where
   pub domains : Bits
   pub controls : Bits
 
--- a device for each place
+-- a device for each slot
 abbrev pub Devices : Type 0
 Devices = ℕ → Device
 
@@ -67,7 +67,7 @@ apqi q = q % 256
 unfoldable pub inProduct : Bits → Bits → Bits
 inProduct adapters domains q = adapters (apid q) && domains (apqi q)
 
--- an empty place
+-- an empty slot
 unfoldable pub noDevice : Device
 noDevice = record { present = false; isOpen = false; id = record { hi = 0; lo = 0 }; adapters = noBits; domains = noBits; controls = noBits }
 

@@ -1,8 +1,11 @@
-// The types of the assignment service. Its rules are the definitions in specs/.
+// The types of the assignment service, and what its answers are as numbers. Its rules are the definitions in specs/.
 //
-// Rests on errno and mask.
+// Rests on errno, mask, number and masktext.
 use errno::Errno;
 use mask::Mask;
+ghost use mathlib.Core.Path.{_≡_};
+ghost use Rattle.rules.specs.Queues.{movedNumber};
+ghost use Rattle.rules.specs.Commands.{answered};
 
 // Who drives a queue: nobody, the host's own driver, or the driver that passes it through to guests.
 pub enum Driver {
@@ -57,4 +60,26 @@ pub struct Masks {
     pub adapters: Mask,
     pub domains: Mask,
     pub controls: Mask,
+}
+
+// An answer as its errno value, 0 where there is no refusal.
+pub fn answer_number(answer: Answer) -> u8
+    ensures { λ r. ⌜ r ≡ answered answer ⌝ }
+{
+    match answer {
+        Answer::Done => 0,
+        Answer::Refused(e) => errno::number(e),
+    }
+}
+
+// What a move did, as a number.
+pub fn moved_number(moved: Moved) -> u8
+    ensures { λ r. ⌜ r ≡ movedNumber moved ⌝ }
+{
+    match moved {
+        Moved::Idle => 0,
+        Moved::Released => 1,
+        Moved::BoundHost => 2,
+        Moved::BoundPassthrough => 3,
+    }
 }

@@ -13,7 +13,7 @@ use borrow.Author.Tests.{leb-true, le-leb, ne-eqb}
 use Rattle.rules.specs.declared.Answer.{Answer}
 use Rattle.rules.specs.declared.Moved.{Moved}
 use Rattle.rules.specs.State.{Limits, State, fresh}
-use Rattle.rules.specs.Queues.{moveAnswer}
+use Rattle.rules.specs.Queues.{moveAnswer, movedNumber}
 use Rattle.rules.specs.Queues as Queues
 use Rattle.rules.specs.Commands.{errnoOf, stateAfter}
 use Rattle.record.specs.Layout.{stateIn}
@@ -24,7 +24,7 @@ use Rattle.model.specs.Steps.{Command, Step, command, move, queueOf, rule, afte
 use Rattle.model.specs.Demand3.{Demand3}
 use Rattle.model.proofs.Demand.{demand3}
 use Rattle.encoding.specs.Encoding.{sizeOf, stepOf, whole, decode}
-use Rattle.run.specs.Running.{Run, movedByte, answerByte, answerBytes}
+use Rattle.run.specs.Running.{Run, answerByte, answerBytes}
 
 -- a fresh record of limits that are bytes
 pub made : {a d : ℕ} {ws vs qs rs : List ℕ} {r : Answer} → Freshened a d ws vs qs rs r → a < 256 → d < 256
@@ -43,12 +43,12 @@ obeyed b x s t r m e f g h = (f ∙ g ∙ ap (λ (y : Step). answerByte y s) (sy
 
 -- a move of the queue of two bytes
 pub moved : (a d : ℕ) (ws qs rs : List ℕ) (r : ℕ) (m : Moved) → a < 256 → d < 256 → length qs ≡ 65536
-    → r ≡ movedByte m → m ≡ moveAnswer (a * 256 + d) (stateIn ws qs) → rs ≡ moveBytes ws (a * 256 + d) qs
+    → r ≡ movedNumber m → m ≡ moveAnswer (a * 256 + d) (stateIn ws qs) → rs ≡ moveBytes ws (a * 256 + d) qs
     → (r ≡ answerByte (move a d) (stateIn ws qs)) × (stateIn ws rs ≡ after (move a d) (stateIn ws qs))
 unfolding answerByte after queueOf
 moved a d ws qs rs r m ha hd l f g h =
     let queue : a * 256 + d ≡ queueOf a d = omega arith in (
-      f ∙ ap movedByte g ∙ ap (λ (n : ℕ). movedByte (moveAnswer n (stateIn ws qs))) queue,
+      f ∙ ap movedNumber g ∙ ap (λ (n : ℕ). movedNumber (moveAnswer n (stateIn ws qs))) queue,
       ap (stateIn ws) h ∙ read-move ws qs (a * 256 + d) (omega arith) ∙ ap (λ (n : ℕ). Queues.move n (stateIn ws qs)) queue,
     )
 

@@ -4,27 +4,18 @@ use Prim.Native.Nat.{ℕ}
 use mathlib.Core.List.{List, [], _∷_, _++_}
 use mathlib.Core.Path.{_≡_}
 use lib.ListN.{length, drop}
-use Rattle.rules.specs.declared.Moved.{Moved}
-use Rattle.rules.specs.declared.Moved.the-variants.{Idle, Released, BoundHost, BoundPassthrough}
 use Rattle.rules.specs.State.{Limits, State, fresh}
-use Rattle.rules.specs.Queues.{moveAnswer}
+use Rattle.rules.specs.Queues.{moveAnswer, movedNumber}
 use Rattle.rules.specs.Commands.{errnoOf}
 use Rattle.record.specs.Layout.{stateIn}
 use Rattle.model.specs.Steps.{Step, command, move, queueOf, rule, after, afterAll}
 use Rattle.model.specs.Demand3.{Demand3}
 use Rattle.encoding.specs.Encoding.{decode}
 
--- a move's answer as a byte
-unfoldable pub movedByte : Moved → ℕ
-movedByte Idle = 0
-movedByte Released = 1
-movedByte BoundHost = 2
-movedByte BoundPassthrough = 3
-
 -- a step's answer as a byte: a command's errno value, 0 where there is no refusal, or a move's answer
 unfoldable pub answerByte : Step → State → ℕ
 answerByte (command c) s = errnoOf (rule c s)
-answerByte (move a d) s = movedByte (moveAnswer (queueOf a d) s)
+answerByte (move a d) s = movedNumber (moveAnswer (queueOf a d) s)
 
 -- the answers to a list's steps
 unfoldable pub answerBytes : List Step → State → List ℕ

@@ -3,31 +3,29 @@
 // Rests on everything below: it calls the functions that a caller would.
 use mask::Apid;
 use mask::Apqi;
-use record::WORDS;
-use rules::Answer;
-use rules::Moved;
+use record::Drivers;
+use record::Words;
 ghost use mathlib.Core.Path.{_≡_};
 ghost use Prim.Native.Nat.{_≤_};
 ghost use lib.ListN.{length};
-ghost use Rattle.rules.specs.Commands.{answered};
 ghost use Rattle.record.specs.Layout.{stateIn};
 ghost use Rattle.model.specs.Steps.{move, after};
 ghost use Rattle.encoding.specs.Encoding.{stepOf};
-ghost use Rattle.run.specs.Running.{Run, answerByte, movedByte};
+ghost use Rattle.run.specs.Running.{Run, answerByte};
 
 // Makes the lent memory a fresh record, carries out the steps, and writes a byte of answer for each. It answers how many
 // steps it carried out: those for which there is room for an answer.
 pub fn run(
-    s: &mut [u64; WORDS],
-    q: &mut [u8; 65536],
+    words: &mut Words,
+    drivers: &mut Drivers,
     adapter: u8,
     domain: u8,
     steps: &[u8],
     answers: &mut [u8],
 ) -> usize
-    ensures { λ r. ⌜ Run (record { adapter = adapter; domain = domain }) (now (steps .entry)) (now (answers .entry)) (now (answers .exit)) (now (s .exit)) (now (q .exit)) r ⌝ }
+    ensures { λ r. ⌜ Run (record { adapter = adapter; domain = domain }) (now (steps .entry)) (now (answers .entry)) (now (answers .exit)) (now (words .exit)) (now (drivers .exit)) r ⌝ }
 {
-    setup::fresh(s, q, adapter as u64, domain as u64);
+    setup::fresh(words, drivers, adapter as u64, domain as u64);
     let mut at = 0usize;
     let mut n = 0usize;
     while n < answers.len() {
@@ -35,7 +33,7 @@ pub fn run(
         if size == 0 {
             return n;
         }
-        answers[n] = step(s, q, &steps[at..at + size]);
+        answers[n] = step(words, drivers, &steps[at..at + size]);
         at += size;
         n += 1;
     }
@@ -43,52 +41,32 @@ pub fn run(
 }
 
 // Carries out one step, and gives its answer as a byte.
-fn step(s: &mut [u64; WORDS], q: &mut [u8; 65536], b: &[u8]) -> u8
-    requires { ⌜ 20 ≤ length (now b) ⌝ }
-    ensures answer { λ r. ⌜ r ≡ answerByte (stepOf (now (b .entry))) (stateIn (now (s .entry)) (now (q .entry))) ⌝ }
-    ensures state { λ r. ⌜ stateIn (now (s .exit)) (now (q .exit)) ≡ after (stepOf (now (b .entry))) (stateIn (now (s .entry)) (now (q .entry))) ⌝ }
+fn step(words: &mut Words, drivers: &mut Drivers, bytes: &[u8]) -> u8
+    requires { ⌜ 20 ≤ length (now bytes) ⌝ }
+    ensures answer { λ r. ⌜ r ≡ answerByte (stepOf (now (bytes .entry))) (stateIn (now (words .entry)) (now (drivers .entry))) ⌝ }
+    ensures state { λ r. ⌜ stateIn (now (words .exit)) (now (drivers .exit)) ≡ after (stepOf (now (bytes .entry))) (stateIn (now (words .entry)) (now (drivers .entry))) ⌝ }
 {
-    let op = b[0];
+    let op = bytes[0];
     match op {
-        0 => number(devices::create(s, encoding::id_of(b))),
-        1 => number(devices::remove(s, encoding::id_of(b))),
-        2 => number(devices::open(s, encoding::id_of(b))),
-        3 => number(devices::close(s, encoding::id_of(b))),
-        4 => number(assign::assign(s, encoding::kind_of(b[1]), encoding::id_of(b), &b[20..])),
-        5 => number(assign::unassign(s, encoding::kind_of(b[1]), encoding::id_of(b), &b[20..])),
-        6 => number(host::set_apmask(s, &b[20..])),
-        7 => number(host::set_aqmask(s, &b[20..])),
-        8 => number(host::configure(s, q, encoding::configuration_of(&b[20..]))),
-        _ => make_move(s, q, b[2], b[3]),
+        0 => rules::answer_number(devices::create(words, encoding::id_of(bytes))),
+        1 => rules::answer_number(devices::remove(words, encoding::id_of(bytes))),
+        2 => rules::answer_number(devices::open(words, encoding::id_of(bytes))),
+        3 => rules::answer_number(devices::close(words, encoding::id_of(bytes))),
+        4 => rules::answer_number(assign::assign(words, encoding::kind_of(bytes[1]), encoding::id_of(bytes), &bytes[20..])),
+        5 => rules::answer_number(assign::unassign(words, encoding::kind_of(bytes[1]), encoding::id_of(bytes), &bytes[20..])),
+        6 => rules::answer_number(host::set_apmask(words, &bytes[20..])),
+        7 => rules::answer_number(host::set_aqmask(words, &bytes[20..])),
+        8 => rules::answer_number(host::configure(words, drivers, encoding::configuration_of(&bytes[20..]))),
+        _ => make_move(words, drivers, bytes[2], bytes[3]),
     }
 }
 
 // Makes a move, and gives its answer as a byte.
-fn make_move(s: &[u64; WORDS], q: &mut [u8; 65536], a: u8, d: u8) -> u8
-    ensures answer { λ r. ⌜ r ≡ answerByte (move a d) (stateIn (now (s .entry)) (now (q .entry))) ⌝ }
-    ensures state { λ r. ⌜ stateIn (now (s .entry)) (now (q .exit)) ≡ after (move a d) (stateIn (now (s .entry)) (now (q .entry))) ⌝ }
+fn make_move(words: &Words, drivers: &mut Drivers, adapter: u8, domain: u8) -> u8
+    ensures answer { λ r. ⌜ r ≡ answerByte (move adapter domain) (stateIn (now (words .entry)) (now (drivers .entry))) ⌝ }
+    ensures state { λ r. ⌜ stateIn (now (words .entry)) (now (drivers .exit)) ≡ after (move adapter domain) (stateIn (now (words .entry)) (now (drivers .entry))) ⌝ }
 {
-    record::hold_drivers(q);
-    moved_byte(bind::move_queue(s, q, Apid(a), Apqi(d)))
+    record::hold_drivers(drivers);
+    rules::moved_number(bind::move_queue(words, drivers, Apid(adapter), Apqi(domain)))
 }
 
-// An answer as its errno value, 0 where there is no refusal.
-fn number(a: Answer) -> u8
-    ensures { λ r. ⌜ r ≡ answered a ⌝ }
-{
-    match a {
-        Answer::Done => 0,
-        Answer::Refused(e) => errno::number(e),
-    }
-}
-
-fn moved_byte(m: Moved) -> u8
-    ensures { λ r. ⌜ r ≡ movedByte m ⌝ }
-{
-    match m {
-        Moved::Idle => 0,
-        Moved::Released => 1,
-        Moved::BoundHost => 2,
-        Moved::BoundPassthrough => 3,
-    }
-}

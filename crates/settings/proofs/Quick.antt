@@ -6,13 +6,14 @@ use mathlib.Core.List.{List, [], _∷_}
 use mathlib.Core.Path.{_≡_, refl, sym, ap, ap₂, subst, _∙_, fun-ext}
 use lib.Dec.{eqb, leb}
 use Rattle.errno.specs.Outcome.{Outcome, granted, refused}
+use Rattle.errno.specs.declared.Errno.the-variants.{Enodev, Eaddrinuse, Eaddrnotavail}
 use Rattle.mask.specs.Bits.{Bits, someBelow, both, noBits, included}
 use Rattle.number.specs.Text.{numberText}
 use Rattle.masktext.specs.Text.{maskText}
 use Rattle.rules.specs.declared.Id.{Id}
 use Rattle.rules.specs.declared.Kind.{Kind}
 use Rattle.rules.specs.declared.Kind.the-variants.{Adapter, Domain, Control}
-use Rattle.rules.specs.State.{HostMasks, Device, Devices, State, places, queues, inProduct}
+use Rattle.rules.specs.State.{HostMasks, Device, Devices, State, slots, queues, inProduct}
 use Rattle.rules.specs.Queues as Queues
 use Rattle.rules.specs.Queues.{reserved}
 use Rattle.rules.specs.Commands as Commands
@@ -43,7 +44,7 @@ meetsHost us ds h = someBelow 256 (both us (h .apmask)) && someBelow 256 (both d
 
 unfoldable pub meetsElsewhere : Bits → Bits → ℕ → Devices → Bool
 meetsElsewhere us ds p vs =
-    someBelow places (λ j. not (eqb j p) && (vs j .present && (someBelow 256 (both us (vs j .adapters)) && someBelow 256 (both ds (vs j .domains)))))
+    someBelow slots (λ j. not (eqb j p) && (vs j .present && (someBelow 256 (both us (vs j .adapters)) && someBelow 256 (both ds (vs j .domains)))))
 
 host-quick : (us ds : Bits) (h : HostMasks) → someBelow queues (both (inProduct us ds) (reserved h)) ≡ meetsHost us ds h
 unfolding meetsHost reserved
@@ -53,17 +54,17 @@ host-quick us ds h = products-meet us ds (h .apmask) (h .aqmask)
 unfoldable pub quickAssignAt : Kind → ℕ → ℕ → State → Outcome State
 quickAssignAt k n p s =
     cond (numbersOf k (s .device p) n) (granted s)
-    (cond (meetsHost (pairedAdapters k n (s .device p)) (pairedDomains k n (s .device p)) (s .host)) (refused 99)
-    (cond (meetsElsewhere (pairedAdapters k n (s .device p)) (pairedDomains k n (s .device p)) p (s .device)) (refused 98)
+    (cond (meetsHost (pairedAdapters k n (s .device p)) (pairedDomains k n (s .device p)) (s .host)) (refused Eaddrnotavail)
+    (cond (meetsElsewhere (pairedAdapters k n (s .device p)) (pairedDomains k n (s .device p)) p (s .device)) (refused Eaddrinuse)
     (granted (withDevice p (withNumbers k (included n (numbersOf k (s .device p))) (s .device p)) s))))
 
 assign-quick : (k : Kind) (n p : ℕ) (s : State) → assignAt k n p s ≡ quickAssignAt k n p s
 unfolding assignAt quickAssignAt adding meetsElsewhere
 assign-quick k n p s =
     ap (λ (new : Bits). cond (numbersOf k (s .device p) n) (granted s)
-    (cond (someBelow queues (both new (reserved (s .host)))) (refused 99) (cond (someBelow queues (both new (assignedElsewhere p (s .device)))) (refused 98) (granted t))))
+    (cond (someBelow queues (both new (reserved (s .host)))) (refused Eaddrnotavail) (cond (someBelow queues (both new (assignedElsewhere p (s .device)))) (refused Eaddrinuse) (granted t))))
     (paired-product k n (s .device p))
-    ∙ ap₂ (λ (x y : Bool). cond (numbersOf k (s .device p) n) (granted s) (cond x (refused 99) (cond y (refused 98) (granted t))))
+    ∙ ap₂ (λ (x y : Bool). cond (numbersOf k (s .device p) n) (granted s) (cond x (refused Eaddrnotavail) (cond y (refused Eaddrinuse) (granted t))))
     (host-quick (pairedAdapters k n (s .device p)) (pairedDomains k n (s .device p)) (s .host))
     (taken-by p (s .device) (pairedAdapters k n (s .device p)) (pairedDomains k n (s .device p)))
   where
@@ -72,13 +73,13 @@ assign-quick k n p s =
 
 -- setting the host's masks
 unfoldable pub quickSetHost : HostMasks → State → Outcome State
-quickSetHost h s = cond (meetsElsewhere (h .apmask) (h .aqmask) places (s .device)) (refused 98) (granted (withHost h s))
+quickSetHost h s = cond (meetsElsewhere (h .apmask) (h .aqmask) slots (s .device)) (refused Eaddrinuse) (granted (withHost h s))
 
 host-mask-quick : (h : HostMasks) (s : State) → setHost h s ≡ quickSetHost h s
 unfolding setHost quickSetHost reserved meetsElsewhere
 host-mask-quick h s =
-    ap (λ (a : Bits). cond (someBelow queues (both (inProduct (h .apmask) (h .aqmask)) a)) (refused 98) (granted (withHost h s))) (sym (elsewhere-anywhere (s .device)))
-    ∙ ap (λ (b : Bool). cond b (refused 98) (granted (withHost h s))) (taken-by places (s .device) (h .apmask) (h .aqmask))
+    ap (λ (a : Bits). cond (someBelow queues (both (inProduct (h .apmask) (h .aqmask)) a)) (refused Eaddrinuse) (granted (withHost h s))) (sym (elsewhere-anywhere (s .device)))
+    ∙ ap (λ (b : Bool). cond b (refused Eaddrinuse) (granted (withHost h s))) (taken-by slots (s .device) (h .apmask) (h .aqmask))
 
 -- a command's rule
 unfoldable pub quickRule : Command → State → Outcome State
@@ -87,7 +88,7 @@ quickRule (remove i) s = Commands.remove i s
 quickRule (openIt i) s = Commands.openDevice i s
 quickRule (closeIt i) s = Commands.closeDevice i s
 quickRule (assign k i text) s =
-    reading (numberText text) (λ n. onDevice i s (λ p. cond (leb n (limitOf k (s .limits))) (quickAssignAt k n p s) (refused 19)))
+    reading (numberText text) (λ n. onDevice i s (λ p. cond (leb n (limitOf k (s .limits))) (quickAssignAt k n p s) (refused Enodev)))
 quickRule (unassign k i text) s = Commands.unassign k i text s
 quickRule (setApmask text) s = reading (maskText text (s .host .apmask)) (λ m. quickSetHost (record { apmask = m; aqmask = s .host .aqmask }) s)
 quickRule (setAqmask text) s = reading (maskText text (s .host .aqmask)) (λ m. quickSetHost (record { apmask = s .host .apmask; aqmask = m }) s)
@@ -101,7 +102,7 @@ rule-quick (openIt i) s = refl
 rule-quick (closeIt i) s = refl
 rule-quick (assign k i text) s =
     ap (reading (numberText text))
-    (fun-ext (λ n. ap (onDevice i s) (fun-ext (λ p. ap (λ (o : Outcome State). cond (leb n (limitOf k (s .limits))) o (refused 19)) (assign-quick k n p s)))))
+    (fun-ext (λ n. ap (onDevice i s) (fun-ext (λ p. ap (λ (o : Outcome State). cond (leb n (limitOf k (s .limits))) o (refused Enodev)) (assign-quick k n p s)))))
 rule-quick (unassign k i text) s = refl
 rule-quick (setApmask text) s =
     ap (reading (maskText text (s .host .apmask))) (fun-ext (λ m. host-mask-quick (record { apmask = m; aqmask = s .host .aqmask }) s))

@@ -10,7 +10,9 @@ use lib.Dec.{eqb, leb}
 use lib.ListN.{replicate}
 use borrow.Author.Tests.{eqb-true, ne-eqb}
 use Rattle.errno.specs.Ascii.{ascii}
+use Rattle.errno.specs.Errno.{numberOf}
 use Rattle.errno.specs.Outcome.{granted, refused}
+use Rattle.errno.specs.declared.Errno.the-variants.{Einval}
 use Rattle.mask.specs.Bits.{Bits, digit, bitAt, noBits, allBits, bitsAbove, included, excluded, both, someBelow, number, numbers}
 use Rattle.number.specs.Text.{digitOf, body, startsHex, digitsAfter, digits, anyBase, atMost, numberRule, numberText}
 use Rattle.masktext.specs.Text.{allHex, hexMask, signed, item, andThen, items, before, parts, maskText}
@@ -22,7 +24,7 @@ use Rattle.rules.specs.declared.Configuration.{Configuration}
 use Rattle.rules.specs.State.{Config, State, inProduct, noDevice, fresh, queues}
 use Rattle.rules.specs.Queues.{reserved, configured, targetOf, moved, after, rebound, due, dueAt, sumBelow, remaining, moveAnswer, moves, movesUsed, passed, guestDomains, guestAdapters}
 use Rattle.rules.specs.Queues as Queues
-use Rattle.rules.specs.Commands.{errnoOf, stateAfter, sameId, firstFrom, placeOf, freePlace, withDevice, withHost, onDevice, reading, newDevice, create, numbersOf, withNumbers, limitOf, single, stored, beyondLimits, withConfig, configure}
+use Rattle.rules.specs.Commands.{errnoOf, stateAfter, sameId, firstFrom, slotOf, freeSlot, withDevice, withHost, onDevice, reading, newDevice, create, numbersOf, withNumbers, limitOf, single, stored, beyondLimits, withConfig, configure}
 use Rattle.rules.proofs.Sums.{sum-change, zero-sum}
 use Rattle.rules.proofs.Moves.{remaining-moves, rebound-other}
 use Rattle.rules.proofs.Products.{product-apid, product-apqi}
@@ -38,7 +40,7 @@ texts : (shown (maskText (ascii "0x41") noBits) ≡ granted (1 ∷ 7 ∷ []))
     × (shown (maskText (ascii "0x7d") noBits) ≡ granted (1 ∷ 2 ∷ 3 ∷ 4 ∷ 5 ∷ 7 ∷ []))
     × (shown (maskText (ascii "+0,-6,+0x47,-0xf0") noBits) ≡ granted (0 ∷ 71 ∷ []))
     × (shown (maskText (ascii "+255") noBits) ≡ granted (255 ∷ []))
-    × (shown (maskText (ascii "+256") noBits) ≡ refused 22)
+    × (shown (maskText (ascii "+256") noBits) ≡ refused Einval)
     × (reserved (record { apmask = readMask "0xffff"; aqmask = readMask "0x40" }) (15 * 256 + 1) ≡ true)
     × (reserved (record { apmask = readMask "0xffff"; aqmask = readMask "0x40" }) (16 * 256 + 1) ≡ false)
     × (reserved (record { apmask = readMask "0xffff"; aqmask = readMask "0x40" }) (15 * 256 + 0) ≡ false)
@@ -70,14 +72,14 @@ lists : (quickAnswers twoDevices (limited 255) ≡ (0 ∷ 0 ∷ 0 ∷ 0 ∷ 0 �
     × (quickAnswers (new 1 ∷ adapter 1 "63" ∷ adapter 1 "64" ∷ []) (limited 63) ≡ (0 ∷ 0 ∷ 19 ∷ []))
     × (quickAnswers regained (limited 255) ≡ (0 ∷ 0 ∷ 0 ∷ 0 ∷ 0 ∷ 0 ∷ 0 ∷ 0 ∷ 98 ∷ []))
     × (quickAnswers clash (limited 255) ≡ (0 ∷ 0 ∷ 0 ∷ 0 ∷ 0 ∷ 0 ∷ 0 ∷ 0 ∷ 0 ∷ 0 ∷ 99 ∷ []))
-unfolding ascii digit bitAt noBits allBits included excluded both someBelow digitOf body startsHex digitsAfter digits anyBase atMost numberRule numberText allHex hexMask signed item andThen items before parts maskText fresh noDevice inProduct errnoOf stateAfter sameId firstFrom placeOf freePlace withDevice withHost onDevice reading newDevice create numbersOf withNumbers limitOf single idOf pairedAdapters pairedDomains meetsHost meetsElsewhere quickAssignAt quickSetHost quickRule quickAnswers
+unfolding ascii digit bitAt noBits allBits included excluded both someBelow digitOf body startsHex digitsAfter digits anyBase atMost numberRule numberText allHex hexMask signed item andThen items before parts maskText fresh noDevice inProduct errnoOf numberOf stateAfter sameId firstFrom slotOf freeSlot withDevice withHost onDevice reading newDevice create numbersOf withNumbers limitOf single idOf pairedAdapters pairedDomains meetsHost meetsElsewhere quickAssignAt quickSetHost quickRule quickAnswers
 lists = (refl, refl, refl, refl, refl, refl)
 
 guest-lists : (setBits (guestAdapters (quickAfter oneUnbound (limited 255)) (quickAfter oneUnbound (limited 255) .device 0)) ≡ (5 ∷ []))
     × (setBits (guestDomains (quickAfter oneUnbound (limited 255)) (quickAfter oneUnbound (limited 255) .device 0)) ≡ (4 ∷ 171 ∷ []))
     × (setBits (guestAdapters (quickAfter fewer (limited 255)) (quickAfter fewer (limited 255) .device 0)) ≡ (5 ∷ 6 ∷ []))
     × (setBits (guestDomains (quickAfter fewer (limited 255)) (quickAfter fewer (limited 255) .device 0)) ≡ (4 ∷ []))
-unfolding ascii digit bitAt noBits allBits bitsAbove included excluded both someBelow number numbers digitOf body startsHex digitsAfter digits anyBase atMost numberRule numberText allHex hexMask signed item andThen items before parts maskText fresh noDevice inProduct errnoOf stateAfter sameId firstFrom placeOf freePlace withDevice withHost onDevice reading newDevice create numbersOf withNumbers limitOf single idOf pairedAdapters pairedDomains meetsHost meetsElsewhere quickAssignAt quickSetHost quickRule quickAfter maskWith wordsWith stored beyondLimits withConfig configure reserved configured targetOf moved after rebound moveAnswer passed guestDomains guestAdapters Queues.move queueOf setFrom setBits
+unfolding ascii digit bitAt noBits allBits bitsAbove included excluded both someBelow number numbers digitOf body startsHex digitsAfter digits anyBase atMost numberRule numberText allHex hexMask signed item andThen items before parts maskText fresh noDevice inProduct errnoOf numberOf stateAfter sameId firstFrom slotOf freeSlot withDevice withHost onDevice reading newDevice create numbersOf withNumbers limitOf single idOf pairedAdapters pairedDomains meetsHost meetsElsewhere quickAssignAt quickSetHost quickRule quickAfter maskWith wordsWith stored beyondLimits withConfig configure reserved configured targetOf after rebound moveAnswer passed guestDomains guestAdapters Queues.move queueOf setFrom setBits
 guest-lists = (refl, refl, refl, refl)
 
 -- ---- one queue that is due, and no other
@@ -94,7 +96,7 @@ only-due s n h none =
 
 -- a queue that is not configured and not bound needs none
 not-due : (s : State) (j : ℕ) → s .driver j ≡ Unbound → (configured (s .config) j ≡ true → ⊥) → dueAt s j ≡ 0
-unfolding dueAt targetOf due
+unfolding dueAt targetOf
 not-due s j e h = ap (λ (d : Driver). due d (Queues.target s j)) e ∙ go (configured (s .config) j) refl
   where
     go : (b : Bool) → configured (s .config) j ≡ b
@@ -159,7 +161,7 @@ one-configured j e =
 -- what the moves of queue (5,4) answer
 three-moves : (dueAt exchanged q ≡ 2)
     × (moveAnswer q exchanged ∷ moveAnswer q (moves 1 q exchanged) ∷ moveAnswer q (moves 2 q exchanged) ∷ [] ≡ (Released ∷ BoundPassthrough ∷ Idle ∷ []))
-unfolding ascii digit bitAt noBits allBits bitsAbove included excluded both someBelow number numbers digitOf body startsHex allHex hexMask maskText fresh noDevice stateAfter withHost reading meetsElsewhere quickSetHost quickRule quickAfter maskWith wordsWith beyondLimits configure Queues.move queueOf withConfig stored inProduct dueAt due targetOf configured reserved moved after rebound moveAnswer moves
+unfolding ascii digit bitAt noBits allBits bitsAbove included excluded both someBelow number numbers digitOf body startsHex allHex hexMask maskText fresh noDevice stateAfter withHost reading meetsElsewhere quickSetHost quickRule quickAfter maskWith wordsWith beyondLimits configure Queues.move queueOf withConfig stored inProduct dueAt targetOf configured reserved after rebound moveAnswer moves
 three-moves = (refl, refl)
 
 two-left : remaining exchanged ≡ 2

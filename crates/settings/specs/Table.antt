@@ -8,6 +8,7 @@ use mathlib.Core.Path.{_≡_}
 use lib.ListN.{replicate}
 use Rattle.errno.specs.Ascii.{ascii}
 use Rattle.errno.specs.Outcome.{Outcome, granted, refused}
+use Rattle.errno.specs.declared.Errno.the-variants.{Einval}
 use Rattle.mask.specs.Bits.{Bits, noBits, included, numbers}
 use Rattle.mask.specs.declared.Mask.{Mask}
 use Rattle.masktext.specs.Text.{maskText}
@@ -144,7 +145,7 @@ table =
     -- 3: items are worked from left to right, each number at most 255
     ∷ reads "+0,-6,+0x47,-0xf0" [] (granted (0 ∷ 71 ∷ []))
     ∷ reads "+255" [] (granted (255 ∷ []))
-    ∷ reads "+256" [] (refused 22)
+    ∷ reads "+256" [] (refused Einval)
     -- 4: reserved by both masks
     ∷ reserves "0xffff" "0x40" 15 1 true
     ∷ reserves "0xffff" "0x40" 16 1 false

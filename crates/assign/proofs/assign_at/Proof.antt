@@ -28,10 +28,10 @@ has-requires c κs = search needs
 returns : tie.Need-returns
 returns c =
     let a = c .before .before .before .before .before .before .args in
-    let ws = a .s .now in
-    let has = sym (c .before .has .ensures ∙ ap (λ (m : Bits). m (a .n)) (c .before .before .numbers .ensures)) ∙ c .if1 .taken in
-    let same = same-words ws (a .k) (a .p) (c .before .before .before .before .hold-words .ensures) (c .before .before .before .before .before .before .pre) (a .n) has in
-    done-carried (λ qs. stateIn ws qs) same (λ qs. assigned-already (a .k) (a .n) (a .p) ws qs has) (λ qs. ap (λ (l : List ℕ). stateIn l qs) (sym same))
+    let ws = a .words .now in
+    let has = sym (c .before .has .ensures ∙ ap (λ (m : Bits). m (a .number)) (c .before .before .numbers .ensures)) ∙ c .if1 .taken in
+    let same = same-words ws (a .kind) (a .slot) (c .before .before .before .before .hold-words .ensures) (c .before .before .before .before .before .before .pre) (a .number) has in
+    done-carried (λ qs. stateIn ws qs) same (λ qs. assigned-already (a .kind) (a .number) (a .slot) ws qs has) (λ qs. ap (λ (l : List ℕ). stateIn l qs) (sym same))
 
 paired-requires : tie.Need-paired-requires
 paired-requires c κs = search needs
@@ -43,11 +43,11 @@ returns-2 : tie.Need-returns-2
 unfolding numberOf
 returns-2 c =
     let a = c .before .before .before .before .before .before .before .before .before .before .before .before .before .args in
-    let ws = a .s .now in
-    let none = sym (c .before .before .before .before .before .before .before .before .has .ensures ∙ ap (λ (m : Bits). m (a .n)) (c .before .before .before .before .before .before .before .before .before .numbers .ensures)) ∙ c .before .before .before .before .before .before .before .if1 .left in
+    let ws = a .words .now in
+    let none = sym (c .before .before .before .before .before .before .before .before .has .ensures ∙ ap (λ (m : Bits). m (a .number)) (c .before .before .before .before .before .before .before .before .before .numbers .ensures)) ∙ c .before .before .before .before .before .before .before .if1 .left in
     let new = c .before .before .before .before .before .paired in
-    refused-carried (assignAt (a .k) (a .n) (a .p)) _ ws Eaddrnotavail
-    (λ qs. new-number (a .k) (a .n) (a .p) ws qs (bits (new .result .adapters)) (bits (new .result .domains)) (new .ensures) none
+    refused-carried (assignAt (a .kind) (a .number) (a .slot)) _ ws Eaddrnotavail
+    (λ qs. new-number (a .kind) (a .number) (a .slot) ws qs (bits (new .result .adapters)) (bits (new .result .domains)) (new .ensures) none
     (sym (c .before .reserved .ensures) ∙ c .if2 .taken) refl)
 
 taken-requires : tie.Need-taken-requires
@@ -57,11 +57,11 @@ returns-3 : tie.Need-returns-3
 unfolding numberOf
 returns-3 c =
     let a = c .before .before .before .before .before .before .before .before .before .before .before .before .before .before .before .before .args in
-    let ws = a .s .now in
-    let none = sym (c .before .before .before .before .before .before .before .before .before .before .before .has .ensures ∙ ap (λ (m : Bits). m (a .n)) (c .before .before .before .before .before .before .before .before .before .before .before .before .numbers .ensures)) ∙ c .before .before .before .before .before .before .before .before .before .before .if1 .left in
+    let ws = a .words .now in
+    let none = sym (c .before .before .before .before .before .before .before .before .before .before .before .has .ensures ∙ ap (λ (m : Bits). m (a .number)) (c .before .before .before .before .before .before .before .before .before .before .before .before .numbers .ensures)) ∙ c .before .before .before .before .before .before .before .before .before .before .if1 .left in
     let new = c .before .before .before .before .before .before .before .before .paired in
-    refused-carried (assignAt (a .k) (a .n) (a .p)) _ ws Eaddrinuse
-    (λ qs. new-number (a .k) (a .n) (a .p) ws qs (bits (new .result .adapters)) (bits (new .result .domains)) (new .ensures) none
+    refused-carried (assignAt (a .kind) (a .number) (a .slot)) _ ws Eaddrinuse
+    (λ qs. new-number (a .kind) (a .number) (a .slot) ws qs (bits (new .result .adapters)) (bits (new .result .domains)) (new .ensures) none
     (sym (c .before .before .before .before .reserved .ensures) ∙ c .before .before .before .if2 .left) (sym (c .before .taken .ensures) ∙ c .if3 .taken))
 
 with-requires : tie.Need-with-requires
@@ -73,20 +73,20 @@ put-numbers-requires c κs = search needs
 returns-4 : tie.Need-returns-4
 returns-4 c =
     let a = c .before .before .before .before .before .before .before .before .before .before .before .before .before .before .before .before .before .before .before .args in
-    let ws = a .s .now in
-    let none = sym (c .before .before .before .before .before .before .before .before .before .before .before .before .before .before .has .ensures ∙ ap (λ (m : Bits). m (a .n)) (c .before .before .before .before .before .before .before .before .before .before .before .before .before .before .before .numbers .ensures)) ∙ c .before .before .before .before .before .before .before .before .before .before .before .before .before .if1 .left in
+    let ws = a .words .now in
+    let none = sym (c .before .before .before .before .before .before .before .before .before .before .before .before .before .before .has .ensures ∙ ap (λ (m : Bits). m (a .number)) (c .before .before .before .before .before .before .before .before .before .before .before .before .before .before .before .numbers .ensures)) ∙ c .before .before .before .before .before .before .before .before .before .before .before .before .before .if1 .left in
     let new = c .before .before .before .before .before .before .before .before .before .before .before .paired in
     let m = c .before .with .result in
     let words = mask-words m (c .before .with .ok) in
-    let made = c .before .with .ensures ∙ ap (included (a .n)) (c .before .before .before .before .before .before .before .before .before .before .before .before .before .before .before .numbers .ensures) in
+    let made = c .before .with .ensures ∙ ap (included (a .number)) (c .before .before .before .before .before .before .before .before .before .before .before .before .before .before .before .numbers .ensures) in
     let held = c .before .before .before .before .before .before .before .before .before .before .before .before .before .before .before .before .before .hold-words .ensures in
     let there = c .before .before .before .before .before .before .before .before .before .before .before .before .before .before .before .before .before .before .before .pre in
     done-carried
-    (λ qs. withDevice (a .p) (withNumbers (a .k) (included (a .n) (numbersOf (a .k) (deviceIn ws (a .p)))) (deviceIn ws (a .p))) (stateIn ws qs))
-    (c .put-numbers .ensures ∙ put-changed ws (a .k) (a .p) held there (included (a .n)) m words made)
-    (λ qs. new-number (a .k) (a .n) (a .p) ws qs (bits (new .result .adapters)) (bits (new .result .domains)) (new .ensures) none
+    (λ qs. withDevice (a .slot) (withNumbers (a .kind) (included (a .number) (numbersOf (a .kind) (deviceIn ws (a .slot)))) (deviceIn ws (a .slot))) (stateIn ws qs))
+    (c .put-numbers .ensures ∙ put-changed ws (a .kind) (a .slot) held there (included (a .number)) m words made)
+    (λ qs. new-number (a .kind) (a .number) (a .slot) ws qs (bits (new .result .adapters)) (bits (new .result .domains)) (new .ensures) none
     (sym (c .before .before .before .before .before .before .before .reserved .ensures) ∙ c .before .before .before .before .before .before .if2 .left) (sym (c .before .before .before .before .taken .ensures) ∙ c .before .before .before .if3 .left))
-    (read-changed ws (a .k) (a .p) held there (included (a .n)) m words made)
+    (read-changed ws (a .kind) (a .slot) held there (included (a .number)) m words made)
 
 pub assign-at-spec : {M : Type 1} → statement M
 assign-at-spec =

@@ -23,8 +23,8 @@ returns : tie.Need-returns
 unfolding numberOf
 returns c =
     let a = c .before .before .before .args in
-    refused-carried _ _ (a .s .now) Enoent
-    (λ qs. unknown (a .i) (a .s .now) qs (c .before .find .result) (c .before .find .ensures) _ (c .if1 .taken))
+    refused-carried _ _ (a .words .now) Enoent
+    (λ qs. unknown (a .id) (a .words .now) qs (c .before .find .result) (c .before .find .ensures) _ (c .if1 .taken))
 
 in-range-requires : tie.Need-in-range-requires
 in-range-requires c κs = search needs
@@ -35,8 +35,8 @@ returns-2 c =
     let a = c .before .before .before .before .before .before .args in
     let f = c .before .before .before .before .find in
     let over = ap not (sym (c .if2 .taken)) ∙ Bool·not-not _ ∙ c .before .in-range .ensures in
-    refused-carried _ _ (a .s .now) Enodev
-    (λ qs. by-range (a .k) (a .i) (a .n) (a .s .now) qs (f .result) (f .ensures) (c .before .before .before .if1 .left) _ over _)
+    refused-carried _ _ (a .words .now) Enodev
+    (λ qs. by-range (a .kind) (a .id) (a .number) (a .words .now) qs (f .result) (f .ensures) (c .before .before .before .if1 .left) _ over _)
 
 cast-assign-at : tie.Need-cast-assign-at
 cast-assign-at c = search needs
@@ -47,13 +47,13 @@ assign-at-requires c κs = search needs
 returns-3 : tie.Need-returns-3
 returns-3 c =
     let a = c .before .before .before .before .before .before .before .before .args in
-    let ws = a .s .now in
+    let ws = a .words .now in
     let f = c .before .before .before .before .before .before .find in
     let within = ap not (sym (c .before .before .if2 .left)) ∙ Bool·not-not _ ∙ c .before .before .before .in-range .ensures in
-    let few = in-range-small (a .k) ws (a .n) (sym within) in
+    let few = in-range-small (a .kind) ws (a .number) (sym within) in
     carried-as
-    (λ qs. by-range (a .k) (a .i) (a .n) ws qs (f .result) (f .ensures) (c .before .before .before .before .before .if1 .left) _ within _ ∙ ap (λ (n : ℕ). assignAt (a .k) n (f .result) (stateIn ws qs)) (sym few))
-    (ap₂ (λ (j n : ℕ). changed ws (a .k) j (included n)) (sym (f .ensures)) (sym few))
+    (λ qs. by-range (a .kind) (a .id) (a .number) ws qs (f .result) (f .ensures) (c .before .before .before .before .before .if1 .left) _ within _ ∙ ap (λ (n : ℕ). assignAt (a .kind) n (f .result) (stateIn ws qs)) (sym few))
+    (ap₂ (λ (j n : ℕ). changed ws (a .kind) j (included n)) (sym (f .ensures)) (sym few))
     (c .assign-at .ensures)
 
 pub assign-number-spec : {M : Type 1} → statement M

@@ -13,7 +13,7 @@ cast-result : tie.Need-cast-result
 cast-result c = search needs
 
 returns : tie.Need-returns
-returns c = ap (leb (c .before .args .n)) (c .limit .ensures)
+returns c = ap (leb (c .before .args .number)) (c .limit .ensures)
 
 pub in-range-spec : {M : Type 1} → statement M
 in-range-spec = tie.close (tie.spec limit-requires cast-result returns)

@@ -48,24 +48,24 @@ returns : tie.Need-returns
 unfolding paired numbersOf
 returns c =
     let a = c .before .before .before .before .before .args in
-    let v = deviceIn (a .s .now) (a .p) in
-    ap₂ inProduct (c .before .with .ensures ∙ ap (included (a .n)) (c .before .before .empty .ensures) ∙ one-bit (a .n)) (c .numbers .ensures)
-    ∙ ap (λ (k : Kind). paired k (a .n) v) (sym (c .before .before .before .enum-told .given .1))
+    let v = deviceIn (a .words .now) (a .slot) in
+    ap₂ inProduct (c .before .with .ensures ∙ ap (included (a .number)) (c .before .before .empty .ensures) ∙ one-bit (a .number)) (c .numbers .ensures)
+    ∙ ap (λ (k : Kind). paired k (a .number) v) (sym (c .before .before .before .enum-told .given .1))
 
 returns-2 : tie.Need-returns-2
 unfolding paired numbersOf
 returns-2 c =
     let a = c .before .before .before .before .before .args in
-    let v = deviceIn (a .s .now) (a .p) in
-    ap₂ inProduct (c .before .before .numbers2 .ensures) (c .with2 .ensures ∙ ap (included (a .n)) (c .before .empty2 .ensures) ∙ one-bit (a .n))
-    ∙ ap (λ (k : Kind). paired k (a .n) v) (sym (c .before .before .before .enum-told2 .given .1))
+    let v = deviceIn (a .words .now) (a .slot) in
+    ap₂ inProduct (c .before .before .numbers2 .ensures) (c .with2 .ensures ∙ ap (included (a .number)) (c .before .empty2 .ensures) ∙ one-bit (a .number))
+    ∙ ap (λ (k : Kind). paired k (a .number) v) (sym (c .before .before .before .enum-told2 .given .1))
 
 returns-3 : tie.Need-returns-3
 unfolding paired inProduct noBits
 returns-3 c =
     let a = c .before .before .before .before .args in
-    let v = deviceIn (a .s .now) (a .p) in
-    ap₂ inProduct (c .before .empty3 .ensures) (c .empty4 .ensures) ∙ ap (λ (k : Kind). paired k (a .n) v) (sym (c .before .before .enum-told3 .given .1))
+    let v = deviceIn (a .words .now) (a .slot) in
+    ap₂ inProduct (c .before .empty3 .ensures) (c .empty4 .ensures) ∙ ap (λ (k : Kind). paired k (a .number) v) (sym (c .before .before .enum-told3 .given .1))
 
 pub paired-spec : {M : Type 1} → statement M
 paired-spec =

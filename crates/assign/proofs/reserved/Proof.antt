@@ -26,7 +26,7 @@ returns : tie.Need-returns
 unfolding reserved
 returns c =
     let a = c .before .before .before .before .before .args in
-    let h = hostIn (a .s .now) in
+    let h = hostIn (a .words .now) in
     let adapters =
     ap (λ (m : Bits). someBelow 256 (both (bits (a .adapters)) m)) (sym (c .before .before .before .before .apmask .ensures)) ∙ sym (c .before .before .before .meets .ensures)
     ∙ c .before .before .if1 .taken
@@ -38,7 +38,7 @@ returns-2 : tie.Need-returns-2
 unfolding reserved
 returns-2 c =
     let a = c .before .before .before .args in
-    let h = hostIn (a .s .now) in
+    let h = hostIn (a .words .now) in
     let adapters =
     ap (λ (m : Bits). someBelow 256 (both (bits (a .adapters)) m)) (sym (c .before .before .apmask .ensures)) ∙ sym (c .before .meets .ensures)
     ∙ c .if1 .left

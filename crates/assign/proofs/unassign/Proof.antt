@@ -5,7 +5,7 @@ use denote.Ref.{now}
 use borrow.Author.Needs.{needs}
 use Rattle.mask.specs.Bits.{excluded}
 use Rattle.number.specs.Text.{outcome}
-use Rattle.rules.specs.Commands.{placeOf, unassign}
+use Rattle.rules.specs.Commands.{slotOf, unassign}
 use Rattle.record.specs.Layout.{deviceIn}
 use Rattle.assign.specs.Numbers.{changed, withoutNumber}
 use Rattle.assign.proofs.Laws.{by-number, by-none}
@@ -29,14 +29,14 @@ unfolding unassign withoutNumber outcome
 returns c =
     let a = c .before .before .before .before .before .before .before .args in
     let n = c .before .before .before .n .given in
-    by-number _ (λ n. changed (a .s .now) (a .k) (placeOf (a .i) (deviceIn (a .s .now))) (excluded n)) (now (a .text)) (a .s .now) (n .0 .0) _ _
+    by-number _ (λ n. changed (a .words .now) (a .kind) (slotOf (a .id) (deviceIn (a .words .now))) (excluded n)) (now (a .text)) (a .words .now) (n .0 .0) _ _
     (sym (c .before .before .before .before .before .parse .ensures) ∙ ap outcome (n .1)) (c .unassign-number .ensures)
 
 returns-2 : tie.Need-returns-2
 unfolding unassign withoutNumber outcome
 returns-2 c =
     let a = c .before .before .before .before .args in
-    by-none _ (λ n. changed (a .s .now) (a .k) (placeOf (a .i) (deviceIn (a .s .now))) (excluded n)) (now (a .text)) (a .s .now)
+    by-none _ (λ n. changed (a .words .now) (a .kind) (slotOf (a .id) (deviceIn (a .words .now))) (excluded n)) (now (a .text)) (a .words .now)
     (sym (c .before .before .parse .ensures) ∙ ap outcome (c .enum-told .given .1))
 
 pub unassign-spec : {M : Type 1} → statement M

@@ -25,8 +25,8 @@ returns : tie.Need-returns
 unfolding numberOf
 returns c =
     let a = c .before .before .before .args in
-    refused-carried _ _ (a .s .now) Enoent
-    (λ qs. unknown (a .i) (a .s .now) qs (c .before .find .result) (c .before .find .ensures) _ (c .if1 .taken))
+    refused-carried _ _ (a .words .now) Enoent
+    (λ qs. unknown (a .id) (a .words .now) qs (c .before .find .result) (c .before .find .ensures) _ (c .if1 .taken))
 
 in-range-requires : tie.Need-in-range-requires
 in-range-requires c κs = search needs
@@ -37,8 +37,8 @@ returns-2 c =
     let a = c .before .before .before .before .before .before .args in
     let f = c .before .before .before .before .find in
     let over = ap not (sym (c .if2 .taken)) ∙ Bool·not-not _ ∙ c .before .in-range .ensures in
-    refused-carried _ _ (a .s .now) Enodev
-    (λ qs. by-range (a .k) (a .i) (a .n) (a .s .now) qs (f .result) (f .ensures) (c .before .before .before .if1 .left) _ over _)
+    refused-carried _ _ (a .words .now) Enodev
+    (λ qs. by-range (a .kind) (a .id) (a .number) (a .words .now) qs (f .result) (f .ensures) (c .before .before .before .if1 .left) _ over _)
 
 hold-words-requires : tie.Need-hold-words-requires
 hold-words-requires c κs = search needs
@@ -59,22 +59,22 @@ returns-3 : tie.Need-returns-3
 unfolding stateIn
 returns-3 c =
     let a = c .before .before .before .before .before .before .before .before .before .before .before .before .before .args in
-    let ws = a .s .now in
+    let ws = a .words .now in
     let f = c .before .before .before .before .before .before .before .before .before .before .before .find in
     let p = f .result in
     let there = c .before .before .before .before .before .before .before .before .before .before .if1 .left in
     let within = ap not (sym (c .before .before .before .before .before .before .before .if2 .left)) ∙ Bool·not-not _ ∙ c .before .before .before .before .before .before .before .before .in-range .ensures in
-    let few = in-range-small (a .k) ws (a .n) (sym within) in
+    let few = in-range-small (a .kind) ws (a .number) (sym within) in
     let m = c .before .without .result in
     let words = mask-words m (c .before .without .ok) in
     let made = c .before .without .ensures ∙ ap₂ excluded few (c .before .before .before .numbers .ensures) in
     let held = c .before .before .before .before .before .hold-words .ensures in
-    let place : ℕ → List ℕ = λ j. changed ws (a .k) j (excluded (a .n)) in
+    let slot : ℕ → List ℕ = λ j. changed ws (a .kind) j (excluded (a .number)) in
     done-carried
-    (λ qs. withDevice p (withNumbers (a .k) (excluded (a .n) (numbersOf (a .k) (deviceIn ws p))) (deviceIn ws p)) (stateIn ws qs))
-    (c .put-numbers .ensures ∙ put-changed ws (a .k) p held there (excluded (a .n)) m words made ∙ ap place (f .ensures))
-    (λ qs. by-range (a .k) (a .i) (a .n) ws qs p (f .ensures) there _ within _)
-    (λ qs. ap (λ (l : List ℕ). stateIn l qs) (ap place (sym (f .ensures))) ∙ read-changed ws (a .k) p held there (excluded (a .n)) m words made qs)
+    (λ qs. withDevice p (withNumbers (a .kind) (excluded (a .number) (numbersOf (a .kind) (deviceIn ws p))) (deviceIn ws p)) (stateIn ws qs))
+    (c .put-numbers .ensures ∙ put-changed ws (a .kind) p held there (excluded (a .number)) m words made ∙ ap slot (f .ensures))
+    (λ qs. by-range (a .kind) (a .id) (a .number) ws qs p (f .ensures) there _ within _)
+    (λ qs. ap (λ (l : List ℕ). stateIn l qs) (ap slot (sym (f .ensures))) ∙ read-changed ws (a .kind) p held there (excluded (a .number)) m words made qs)
 
 pub unassign-number-spec : {M : Type 1} → statement M
 unassign-number-spec =

@@ -22,7 +22,7 @@ cast-t9-2 c = search needs
 returns : tie.Need-returns
 returns c =
     let a = c .before .args in
-    ap (λ (b : Bool). cond b (now (a .q)) (set (now (a .q)) (a .k) (byteOf (a .t)))) (sym (eq-eqb (a .n) 0 (c .if1 .taken)))
+    ap (λ (b : Bool). cond b (now (a .drivers)) (set (now (a .drivers)) (a .queue) (byteOf (a .target)))) (sym (eq-eqb (a .due) 0 (c .if1 .taken)))
 
 put-driver-requires : tie.Need-put-driver-requires
 put-driver-requires c κs = search needs
@@ -30,8 +30,8 @@ put-driver-requires c κs = search needs
 returns-2 : tie.Need-returns-2
 returns-2 c =
     let a = c .before .before .before .args in
-    c .put-driver .ensures ∙ ap (λ (i : ℕ). set (now (a .q)) i (byteOf (a .t))) (queue-split (a .k) (c .before .before .before .pre))
-    ∙ ap (λ (b : Bool). cond b (now (a .q)) (set (now (a .q)) (a .k) (byteOf (a .t)))) (sym (ne-eqb (a .n) 0 (λ z. omega arith)))
+    c .put-driver .ensures ∙ ap (λ (i : ℕ). set (now (a .drivers)) i (byteOf (a .target))) (queue-split (a .queue) (c .before .before .before .pre))
+    ∙ ap (λ (b : Bool). cond b (now (a .drivers)) (set (now (a .drivers)) (a .queue) (byteOf (a .target)))) (sym (ne-eqb (a .due) 0 (λ z. omega arith)))
 
 pub finish-spec : {M : Type 1} → statement M
 finish-spec = tie.close (tie.spec cast-t9 cast-t9-2 returns put-driver-requires returns-2)

@@ -45,22 +45,22 @@ put-driver-requires-3 c κs = search needs
 
 -- the queue
 abbrev queue : tie.Start → ℕ
-queue c = c .args .a .0 * 256 + c .args .d .0
+queue c = c .args .adapter .0 * 256 + c .args .domain .0
 
 answered : (c : tie.After-moved-by) → c .moved-by .result
-    ≡ moveAnswer (queue (c .before .before .before .before)) (stateIn (now (c .before .before .before .before .args .s)) (now (c .before .before .before .before .args .q)))
+    ≡ moveAnswer (queue (c .before .before .before .before)) (stateIn (now (c .before .before .before .before .args .words)) (now (c .before .before .before .before .args .drivers)))
 answered c =
     let a = c .before .before .before .before .args in
     c .moved-by .ensures ∙ ap₂ moved (c .before .before .driver .ensures) (c .before .target .ensures)
-    ∙ answer-read (now (a .s)) (now (a .q)) (queue (c .before .before .before .before))
+    ∙ answer-read (now (a .words)) (now (a .drivers)) (queue (c .before .before .before .before))
 
 -- the bytes of a known answer
 written : (c : tie.After-moved-by) (m : Moved) → c .moved-by .result ≡ m
-    → bytesAfter m (queue (c .before .before .before .before)) (now (c .before .before .before .before .args .q))
-    ≡ moveBytes (now (c .before .before .before .before .args .s)) (queue (c .before .before .before .before)) (now (c .before .before .before .before .args .q))
+    → bytesAfter m (queue (c .before .before .before .before)) (now (c .before .before .before .before .args .drivers))
+    ≡ moveBytes (now (c .before .before .before .before .args .words)) (queue (c .before .before .before .before)) (now (c .before .before .before .before .args .drivers))
 written c m e =
     let a = c .before .before .before .before .args in
-    bytes-by (now (a .s)) (now (a .q)) (queue (c .before .before .before .before)) m (sym e ∙ answered c)
+    bytes-by (now (a .words)) (now (a .drivers)) (queue (c .before .before .before .before)) m (sym e ∙ answered c)
 
 returns : tie.Need-returns
 unfolding bytesAfter

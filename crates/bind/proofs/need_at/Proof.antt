@@ -28,8 +28,8 @@ returns : tie.Need-returns
 returns c =
     let a = c .before .before .before .args in
     let h = c .before .before .before .pre in (
-      c .due-by .ensures ∙ ap₂ due (c .before .driver .ensures) (c .before .before .target .ensures) ∙ due-split (now (a .s)) (now (a .q)) (a .k) h,
-      c .before .before .target .ensures ∙ ap (targetOf (hostIn (now (a .s))) (configIn (now (a .s)))) (queue-split (a .k) h),
+      c .due-by .ensures ∙ ap₂ due (c .before .driver .ensures) (c .before .before .target .ensures) ∙ due-split (now (a .words)) (now (a .drivers)) (a .queue) h,
+      c .before .before .target .ensures ∙ ap (targetOf (hostIn (now (a .words))) (configIn (now (a .words)))) (queue-split (a .queue) h),
     )
 
 pub need-at-spec : {M : Type 1} → statement M

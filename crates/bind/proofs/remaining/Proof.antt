@@ -22,18 +22,18 @@ abbrev μ-loop : tie.MeasureT-loop
 μ-loop s q sum₀ k₀ sum k = 65536 - k
 
 loop-holds : tie.Need-loop-holds Inv-loop μ-loop
-loop-holds c = (search needs, sym (sum-none (dueAt (stateIn (now (c .args .s)) (now (c .args .q))))))
+loop-holds c = (search needs, sym (sum-none (dueAt (stateIn (now (c .args .words)) (now (c .args .drivers))))))
 
 due-at-requires : tie.Need-due-at-requires Inv-loop μ-loop
 due-at-requires c κs = search needs
 
 add-sum : tie.Need-add-sum Inv-loop μ-loop
 add-sum c =
-    let s = stateIn (now (c .before .before .before .args .s)) (now (c .before .before .before .args .q)) in
-    omega (arith, c .due-at .ensures, due-two s (c .before .before .loop .k), sum-le (c .before .before .loop .k) 2 (dueAt s) (due-two s))
+    let s = stateIn (now (c .before .before .before .args .words)) (now (c .before .before .before .args .drivers)) in
+    omega (arith, c .due-at .ensures, due-two s (c .before .before .loop .queue), sum-le (c .before .before .loop .queue) 2 (dueAt s) (due-two s))
 
-add-k : tie.Need-add-k Inv-loop μ-loop
-add-k c = search needs
+add-queue : tie.Need-add-queue Inv-loop μ-loop
+add-queue c = search needs
 
 loop-less : tie.Need-loop-less Inv-loop μ-loop
 loop-less c = search needs
@@ -44,8 +44,8 @@ loop-again c = (search needs, rw (c .before .before .loop .inv .1, c .due-at .en
 returns : tie.Need-returns Inv-loop μ-loop
 unfolding remaining
 returns c =
-    let e : c .before .loop .k ≡ 65536 = omega arith in
-    c .before .loop .inv .1 ∙ ap (λ (i : ℕ). sumBelow i (dueAt (stateIn (now (c .before .before .args .s)) (now (c .before .before .args .q))))) e
+    let e : c .before .loop .queue ≡ 65536 = omega arith in
+    c .before .loop .inv .1 ∙ ap (λ (i : ℕ). sumBelow i (dueAt (stateIn (now (c .before .before .args .words)) (now (c .before .before .args .drivers))))) e
 
 pub remaining-spec : {M : Type 1} → statement M
 remaining-spec =
@@ -56,7 +56,7 @@ remaining-spec =
     loop-holds
     due-at-requires
     add-sum
-    add-k
+    add-queue
     loop-less
     loop-again
     returns)

@@ -16,8 +16,8 @@ has-requires : tie.Need-has-requires
 has-requires c κs = search needs
 
 -- the adapter's bit
-adapter : (c : tie.After-has) → c .has .result ≡ hostIn (now (c .before .before .args .s)) .apmask (c .before .before .args .n)
-adapter c = c .has .ensures ∙ ap (λ (f : Bits). f (c .before .before .args .n)) (c .before .apmask .ensures)
+adapter : (c : tie.After-has) → c .has .result ≡ hostIn (now (c .before .before .args .words)) .apmask (c .before .before .args .adapter)
+adapter c = c .has .ensures ∙ ap (λ (f : Bits). f (c .before .before .args .adapter)) (c .before .apmask .ensures)
 
 returns : tie.Need-returns
 returns c = rw (sym (adapter (c .before)) ∙ not-true (c .before .has .result) (c .if1 .taken))
@@ -31,7 +31,7 @@ has-requires-2 c κs = search needs
 returns-2 : tie.Need-returns-2
 returns-2 c =
     rw (sym (adapter (c .before .before .before)) ∙ not-false (c .before .before .before .has .result) (c .before .before .if1 .left))
-    (c .has2 .ensures ∙ ap (λ (f : Bits). f (c .before .before .before .before .before .args .m)) (c .before .aqmask .ensures))
+    (c .has2 .ensures ∙ ap (λ (f : Bits). f (c .before .before .before .before .before .args .domain)) (c .before .aqmask .ensures))
 
 pub reserved-spec : {M : Type 1} → statement M
 reserved-spec =

@@ -19,7 +19,7 @@ cast-t9-2 c = search needs
 returns : tie.Need-returns
 returns c =
     let a = c .before .args in
-    sym (ap (λ (i : ℕ). movesBytes (now (a .s)) i (a .k) (now (a .q))) (c .if1 .taken) ∙ no-moves (now (a .s)) (a .k) (now (a .q)))
+    sym (ap (λ (i : ℕ). movesBytes (now (a .words)) i (a .queue) (now (a .drivers))) (c .if1 .taken) ∙ no-moves (now (a .words)) (a .queue) (now (a .drivers)))
 
 move-queue-requires : tie.Need-move-queue-requires
 move-queue-requires c κs = search needs
@@ -28,8 +28,8 @@ returns-2 : tie.Need-returns-2
 returns-2 c =
     let a = c .before .before .before .before .args in
     c .before .move-queue .ensures .1
-    ∙ ap (λ (i : ℕ). moveBytes (now (a .s)) i (now (a .q))) (queue-split (a .k) (c .before .before .before .before .pre .0))
-    ∙ sym (ap (λ (i : ℕ). movesBytes (now (a .s)) i (a .k) (now (a .q))) (c .if2 .taken) ∙ one-move (now (a .s)) (a .k) (now (a .q)))
+    ∙ ap (λ (i : ℕ). moveBytes (now (a .words)) i (now (a .drivers))) (queue-split (a .queue) (c .before .before .before .before .pre .0))
+    ∙ sym (ap (λ (i : ℕ). movesBytes (now (a .words)) i (a .queue) (now (a .drivers))) (c .if2 .taken) ∙ one-move (now (a .words)) (a .queue) (now (a .drivers)))
 
 move-queue-requires-2 : tie.Need-move-queue-requires-2
 move-queue-requires-2 c κs = search needs
@@ -37,11 +37,11 @@ move-queue-requires-2 c κs = search needs
 returns-3 : tie.Need-returns-3
 returns-3 c =
     let a = c .before .before .before .before .before .before .args in
-    let two : a .n ≡ 2 = omega arith in
-    let e = queue-split (a .k) (c .before .before .before .before .before .before .pre .0) in
-    c .move-queue2 .ensures .1 ∙ ap (λ (i : ℕ). moveBytes (now (a .s)) i (c .before .before .before .move-queue .last .1 .0)) e
-    ∙ ap (moveBytes (now (a .s)) (a .k)) (c .before .before .before .move-queue .ensures .1 ∙ ap (λ (i : ℕ). moveBytes (now (a .s)) i (now (a .q))) e)
-    ∙ sym (ap (λ (i : ℕ). movesBytes (now (a .s)) i (a .k) (now (a .q))) two ∙ two-moves (now (a .s)) (a .k) (now (a .q)))
+    let two : a .moves ≡ 2 = omega arith in
+    let e = queue-split (a .queue) (c .before .before .before .before .before .before .pre .0) in
+    c .move-queue2 .ensures .1 ∙ ap (λ (i : ℕ). moveBytes (now (a .words)) i (c .before .before .before .move-queue .last .1 .0)) e
+    ∙ ap (moveBytes (now (a .words)) (a .queue)) (c .before .before .before .move-queue .ensures .1 ∙ ap (λ (i : ℕ). moveBytes (now (a .words)) i (now (a .drivers))) e)
+    ∙ sym (ap (λ (i : ℕ). movesBytes (now (a .words)) i (a .queue) (now (a .drivers))) two ∙ two-moves (now (a .words)) (a .queue) (now (a .drivers)))
 
 pub settle-spec : {M : Type 1} → statement M
 settle-spec =

@@ -25,24 +25,24 @@ has-requires c κs = search needs
 
 -- what is to be returned
 abbrev wanted : tie.Start → Driver
-wanted c = targetOf (hostIn (now (c .args .s))) (configIn (now (c .args .s))) (c .args .a .0 * 256 + c .args .d .0)
+wanted c = targetOf (hostIn (now (c .args .words))) (configIn (now (c .args .words))) (c .args .adapter .0 * 256 + c .args .domain .0)
 
 -- the test of the hardware type
 abbrev passes : tie.Start → Driver
-passes c = cond (leb 10 (configIn (now (c .args .s)) .types (c .args .a .0))) Passthrough Unbound
+passes c = cond (leb 10 (configIn (now (c .args .words)) .types (c .args .adapter .0))) Passthrough Unbound
 
 parts : (c : tie.Start) → wanted c
-    ≡ cond (configIn (now (c .args .s)) .adapters (c .args .a .0) && configIn (now (c .args .s)) .domains (c .args .d .0))
-    (cond (hostIn (now (c .args .s)) .apmask (c .args .a .0) && hostIn (now (c .args .s)) .aqmask (c .args .d .0)) Host (passes c)) Unbound
-parts c = target-by (hostIn (now (c .args .s))) (configIn (now (c .args .s))) (c .args .a .0) (c .args .d .0) (omega arith)
+    ≡ cond (configIn (now (c .args .words)) .adapters (c .args .adapter .0) && configIn (now (c .args .words)) .domains (c .args .domain .0))
+    (cond (hostIn (now (c .args .words)) .apmask (c .args .adapter .0) && hostIn (now (c .args .words)) .aqmask (c .args .domain .0)) Host (passes c)) Unbound
+parts c = target-by (hostIn (now (c .args .words))) (configIn (now (c .args .words))) (c .args .adapter .0) (c .args .domain .0) (omega arith)
 
 -- the adapter's and the domain's bit
-adapter : (c : tie.After-has) → c .has .result ≡ configIn (now (c .before .before .args .s)) .adapters (c .before .before .args .a .0)
-adapter c = c .has .ensures ∙ ap (λ (f : Bits). f (c .before .before .args .a .0)) (c .before .configured-adapters .ensures)
+adapter : (c : tie.After-has) → c .has .result ≡ configIn (now (c .before .before .args .words)) .adapters (c .before .before .args .adapter .0)
+adapter c = c .has .ensures ∙ ap (λ (f : Bits). f (c .before .before .args .adapter .0)) (c .before .configured-adapters .ensures)
 
 domain : (c : tie.After-has2)
-    → c .has2 .result ≡ configIn (now (c .before .before .before .before .before .args .s)) .domains (c .before .before .before .before .before .args .d .0)
-domain c = c .has2 .ensures ∙ ap (λ (f : Bits). f (c .before .before .before .before .before .args .d .0)) (c .before .configured-domains .ensures)
+    → c .has2 .result ≡ configIn (now (c .before .before .before .before .before .args .words)) .domains (c .before .before .before .before .before .args .domain .0)
+domain c = c .has2 .ensures ∙ ap (λ (f : Bits). f (c .before .before .before .before .before .args .domain .0)) (c .before .configured-domains .ensures)
 
 -- past the tests of the configuration
 configured : (c : tie.After-reserved) → wanted (c .before .before .before .before .before .before .before)
@@ -84,12 +84,12 @@ hardware-type-requires c κs = search needs
 returns-4 : tie.Need-returns-4
 returns-4 c =
     let a = c .before .before .before .before .before .before .before .before .before .before .args in
-    sym (configured (c .before .before .before) ∙ rw (c .before .before .if3 .left, lt-leb 10 (configIn (now (a .s)) .types (a .a .0)) (omega (arith, c .before .hardware-type .ensures))))
+    sym (configured (c .before .before .before) ∙ rw (c .before .before .if3 .left, lt-leb 10 (configIn (now (a .words)) .types (a .adapter .0)) (omega (arith, c .before .hardware-type .ensures))))
 
 returns-5 : tie.Need-returns-5
 returns-5 c =
     let a = c .before .before .before .before .before .before .before .before .before .before .args in
-    sym (configured (c .before .before .before) ∙ rw (c .before .before .if3 .left, le-leb 10 (configIn (now (a .s)) .types (a .a .0)) (omega (arith, c .before .hardware-type .ensures))))
+    sym (configured (c .before .before .before) ∙ rw (c .before .before .if3 .left, le-leb 10 (configIn (now (a .words)) .types (a .adapter .0)) (omega (arith, c .before .hardware-type .ensures))))
 
 pub target-spec : {M : Type 1} → statement M
 target-spec =

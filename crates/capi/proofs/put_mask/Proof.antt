@@ -48,10 +48,10 @@ loop-again c =
     let l = c .before .loop in
     let a = c .before .before .before .before .args in
     let b = c .before .before .to-bytes .result in
-    let bytes : b ≡ maskBytes (bits (a .m)) = c .before .before .to-bytes .ensures in (
+    let bytes : b ≡ maskBytes (bits (a .mask)) = c .before .before .to-bytes .ensures in (
       search needs,
       search needs,
-      rw (l .inv .2, add-one) (paste-suc (a .out .now) (a .at) b (l .i) 0 (omega arith) (omega (arith, ap length bytes, mask-long (bits (a .m))))),
+      rw (l .inv .2, add-one) (paste-suc (a .out .now) (a .at) b (l .i) 0 (omega arith) (omega (arith, ap length bytes, mask-long (bits (a .mask))))),
     )
 
 same-length : tie.Need-same-length Inv-loop μ-loop

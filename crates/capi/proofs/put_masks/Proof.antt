@@ -25,9 +25,9 @@ put-mask-requires-3 c κs = search needs
 returns : tie.Need-returns
 returns c =
     let a = c .before .before .before .before .before .before .before .before .before .args in
-    let adapters = maskBytes (bits (a .m .adapters)) in
-    let domains = maskBytes (bits (a .m .domains)) in
-    let controls = maskBytes (bits (a .m .controls)) in
+    let adapters = maskBytes (bits (a .masks .adapters)) in
+    let domains = maskBytes (bits (a .masks .domains)) in
+    let controls = maskBytes (bits (a .masks .controls)) in
     let long : length (a .out .now) ≡ 96 = omega arith in
     c .put-mask3 .ensures
     ∙ ap (λ (l : List ℕ). paste l 64 controls 32)

@@ -15,13 +15,13 @@ id-requires c κs = search needs
 assign-requires : tie.Need-assign-requires
 assign-requires c κs = search needs
 
-number-requires : tie.Need-number-requires
-number-requires c κs = search needs
+answer-number-requires : tie.Need-answer-number-requires
+answer-number-requires c κs = search needs
 
 returns : tie.Need-returns
 unfolding Numbered
-returns c = (c .before .assign .result, rw (c .before .before .id .ensures, c .before .before .before .kind-of .ensures) at (c .before .assign .ensures), sym (c .number .ensures))
+returns c = (c .before .assign .result, rw (c .before .before .id .ensures, c .before .before .before .kind-of .ensures) at (c .before .assign .ensures), sym (c .answer-number .ensures))
 
 pub zk-assign-spec : {M : Type 1} → statement M
 zk-assign-spec =
-    tie.close (tie.spec kind-of-requires id-requires assign-requires number-requires returns)
+    tie.close (tie.spec kind-of-requires id-requires assign-requires answer-number-requires returns)

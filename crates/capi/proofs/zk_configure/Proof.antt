@@ -12,13 +12,13 @@ configuration-of-requires c κs = search needs
 configure-requires : tie.Need-configure-requires
 configure-requires c κs = search needs
 
-number-requires : tie.Need-number-requires
-number-requires c κs = search needs
+answer-number-requires : tie.Need-answer-number-requires
+answer-number-requires c κs = search needs
 
 returns : tie.Need-returns
 unfolding Numbered
-returns c = (c .before .configure .result, rw (c .before .before .configuration-of .ensures) at (c .before .configure .ensures), sym (c .number .ensures))
+returns c = (c .before .configure .result, rw (c .before .before .configuration-of .ensures) at (c .before .configure .ensures), sym (c .answer-number .ensures))
 
 pub zk-configure-spec : {M : Type 1} → statement M
 zk-configure-spec =
-    tie.close (tie.spec configuration-of-requires configure-requires number-requires returns)
+    tie.close (tie.spec configuration-of-requires configure-requires answer-number-requires returns)

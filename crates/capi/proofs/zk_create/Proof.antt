@@ -12,12 +12,12 @@ id-requires c κs = search needs
 create-requires : tie.Need-create-requires
 create-requires c κs = search needs
 
-number-requires : tie.Need-number-requires
-number-requires c κs = search needs
+answer-number-requires : tie.Need-answer-number-requires
+answer-number-requires c κs = search needs
 
 returns : tie.Need-returns
 unfolding Numbered
-returns c = (c .before .create .result, rw (c .before .before .id .ensures) at (c .before .create .ensures), sym (c .number .ensures))
+returns c = (c .before .create .result, rw (c .before .before .id .ensures) at (c .before .create .ensures), sym (c .answer-number .ensures))
 
 pub zk-create-spec : {M : Type 1} → statement M
-zk-create-spec = tie.close (tie.spec id-requires create-requires number-requires returns)
+zk-create-spec = tie.close (tie.spec id-requires create-requires answer-number-requires returns)

@@ -15,8 +15,8 @@ matrix-of-requires c κs = search needs
 list-requires : tie.Need-list-requires
 list-requires c κs = search needs
 
-number-requires : tie.Need-number-requires
-number-requires c κs = search needs
+answer-number-requires : tie.Need-answer-number-requires
+answer-number-requires c κs = search needs
 
 same-length : tie.Need-same-length
 same-length c = search needs
@@ -26,9 +26,9 @@ unfolding ListShown
 returns c =
     let l = c .before .before .before .list in
     let m = c .before .before .before .before .before in
-    (l .result, rw (m .before .id .ensures, m .matrix-of .ensures) at (l .ensures), refl, refl, sym (c .number .ensures))
+    (l .result, rw (m .before .id .ensures, m .matrix-of .ensures) at (l .ensures), refl, refl, sym (c .answer-number .ensures))
 
 pub zk-list-spec : {M : Type 1} → statement M
 zk-list-spec =
     tie.close
-    (tie.spec id-requires matrix-of-requires list-requires number-requires same-length returns)
+    (tie.spec id-requires matrix-of-requires list-requires answer-number-requires same-length returns)

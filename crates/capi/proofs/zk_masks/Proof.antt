@@ -16,8 +16,8 @@ matrix-of-requires c κs = search needs
 masks-requires : tie.Need-masks-requires
 masks-requires c κs = search needs
 
-number-requires : tie.Need-number-requires
-number-requires c κs = search needs
+answer-number-requires : tie.Need-answer-number-requires
+answer-number-requires c κs = search needs
 
 put-masks-requires : tie.Need-put-masks-requires
 put-masks-requires c κs = search needs
@@ -28,7 +28,7 @@ returns c =
     let n = c .before .before .before .before in
     let m = rw (n .before .before .before .id .ensures, n .before .before .matrix-of .ensures) at (n .before .masks .ensures) in
     record {
-      answer = n .number .ensures ∙ m .0;
+      answer = n .answer-number .ensures ∙ m .0;
       masks = rw (c .before .before .before .if1 .taken) (rw (m .1 .0, m .1 .1 .0, m .1 .1 .1) at (c .put-masks .ensures));
     }
 
@@ -36,7 +36,7 @@ returns-2 : tie.Need-returns-2
 returns-2 c =
     let n = c .before in
     let m = rw (n .before .before .before .id .ensures, n .before .before .matrix-of .ensures) at (n .before .masks .ensures) in
-    record { answer = n .number .ensures ∙ m .0; masks = rw (ne-eqb (n .number .result) 0 (c .if1 .left)) refl }
+    record { answer = n .answer-number .ensures ∙ m .0; masks = rw (ne-eqb (n .answer-number .result) 0 (c .if1 .left)) refl }
 
 pub zk-masks-spec : {M : Type 1} → statement M
 zk-masks-spec =
@@ -45,7 +45,7 @@ zk-masks-spec =
     id-requires
     matrix-of-requires
     masks-requires
-    number-requires
+    answer-number-requires
     put-masks-requires
     returns
     returns-2)

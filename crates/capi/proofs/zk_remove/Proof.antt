@@ -12,12 +12,12 @@ id-requires c κs = search needs
 remove-requires : tie.Need-remove-requires
 remove-requires c κs = search needs
 
-number-requires : tie.Need-number-requires
-number-requires c κs = search needs
+answer-number-requires : tie.Need-answer-number-requires
+answer-number-requires c κs = search needs
 
 returns : tie.Need-returns
 unfolding Numbered
-returns c = (c .before .remove .result, rw (c .before .before .id .ensures) at (c .before .remove .ensures), sym (c .number .ensures))
+returns c = (c .before .remove .result, rw (c .before .before .id .ensures) at (c .before .remove .ensures), sym (c .answer-number .ensures))
 
 pub zk-remove-spec : {M : Type 1} → statement M
-zk-remove-spec = tie.close (tie.spec id-requires remove-requires number-requires returns)
+zk-remove-spec = tie.close (tie.spec id-requires remove-requires answer-number-requires returns)

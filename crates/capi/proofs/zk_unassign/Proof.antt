@@ -15,13 +15,13 @@ id-requires c κs = search needs
 unassign-requires : tie.Need-unassign-requires
 unassign-requires c κs = search needs
 
-number-requires : tie.Need-number-requires
-number-requires c κs = search needs
+answer-number-requires : tie.Need-answer-number-requires
+answer-number-requires c κs = search needs
 
 returns : tie.Need-returns
 unfolding Numbered
-returns c = (c .before .unassign .result, rw (c .before .before .id .ensures, c .before .before .before .kind-of .ensures) at (c .before .unassign .ensures), sym (c .number .ensures))
+returns c = (c .before .unassign .result, rw (c .before .before .id .ensures, c .before .before .before .kind-of .ensures) at (c .before .unassign .ensures), sym (c .answer-number .ensures))
 
 pub zk-unassign-spec : {M : Type 1} → statement M
 zk-unassign-spec =
-    tie.close (tie.spec kind-of-requires id-requires unassign-requires number-requires returns)
+    tie.close (tie.spec kind-of-requires id-requires unassign-requires answer-number-requires returns)

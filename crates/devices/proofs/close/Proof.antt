@@ -7,7 +7,7 @@ use mathlib.Core.Path.{sym, ap, _∙_}
 use borrow.Author.Needs.{needs}
 use Rattle.errno.specs.declared.Errno.the-variants.{Enoent, Einval}
 use Rattle.errno.specs.Errno.{numberOf}
-use Rattle.rules.specs.Commands.{placeOf, closeDevice, withDevice, withOpen}
+use Rattle.rules.specs.Commands.{slotOf, closeDevice, withDevice, withOpen}
 use Rattle.record.specs.Layout.{deviceIn, stateIn, putOpen}
 use Rattle.record.proofs.Laws.{refused-carried, read-open}
 use Rattle.lookup.proofs.Found.{unknown, done-carried}
@@ -22,8 +22,8 @@ returns : tie.Need-returns
 unfolding closeDevice numberOf
 returns c =
     let a = c .before .before .before .args in
-    refused-carried (closeDevice (a .i)) _ (a .s .now) Enoent
-    (λ qs. unknown (a .i) (a .s .now) qs (c .before .find .result) (c .before .find .ensures) _ (c .if1 .taken))
+    refused-carried (closeDevice (a .id)) _ (a .words .now) Enoent
+    (λ qs. unknown (a .id) (a .words .now) qs (c .before .find .result) (c .before .find .ensures) _ (c .if1 .taken))
 
 is-open-requires : tie.Need-is-open-requires
 is-open-requires c κs = search needs
@@ -33,8 +33,8 @@ unfolding closeDevice numberOf
 returns-2 c =
     let a = c .before .before .before .before .before .before .args in
     let f = c .before .before .before .before .find in
-    refused-carried (closeDevice (a .i)) _ (a .s .now) Einval
-    (λ qs. by-open (a .i) (a .s .now) qs (f .result) (f .ensures) (c .before .before .before .if1 .left) _ (ap not (sym (c .if2 .taken)) ∙ Bool·not-not _ ∙ c .before .is-open .ensures) _ _)
+    refused-carried (closeDevice (a .id)) _ (a .words .now) Einval
+    (λ qs. by-open (a .id) (a .words .now) qs (f .result) (f .ensures) (c .before .before .before .if1 .left) _ (ap not (sym (c .if2 .taken)) ∙ Bool·not-not _ ∙ c .before .is-open .ensures) _ _)
 
 hold-words-requires : tie.Need-hold-words-requires
 hold-words-requires c κs = search needs
@@ -46,14 +46,14 @@ returns-3 : tie.Need-returns-3
 unfolding closeDevice stateIn
 returns-3 c =
     let a = c .before .before .before .before .before .before .before .before .before .before .args in
-    let ws = a .s .now in
+    let ws = a .words .now in
     let f = c .before .before .before .before .before .before .before .before .find in
     let there = c .before .before .before .before .before .before .before .if1 .left in
     let opened = ap not (sym (c .before .before .before .before .if2 .left)) ∙ Bool·not-not _ ∙ c .before .before .before .before .before .is-open .ensures in
-    let place : ℕ → List ℕ = λ p. putOpen ws p false in
-    done-carried {effect = place (placeOf (a .i) (deviceIn ws))} (λ qs. withDevice (f .result) (withOpen false (deviceIn ws (f .result))) (stateIn ws qs)) (c .put-open .ensures ∙ ap place (f .ensures))
-    (λ qs. by-open (a .i) ws qs (f .result) (f .ensures) there _ opened _ _)
-    (λ qs. ap (λ (l : List ℕ). stateIn l qs) (ap place (sym (f .ensures))) ∙ read-open ws qs (f .result) (c .before .before .hold-words .ensures .long) there false)
+    let slot : ℕ → List ℕ = λ p. putOpen ws p false in
+    done-carried {effect = slot (slotOf (a .id) (deviceIn ws))} (λ qs. withDevice (f .result) (withOpen false (deviceIn ws (f .result))) (stateIn ws qs)) (c .put-open .ensures ∙ ap slot (f .ensures))
+    (λ qs. by-open (a .id) ws qs (f .result) (f .ensures) there _ opened _ _)
+    (λ qs. ap (λ (l : List ℕ). stateIn l qs) (ap slot (sym (f .ensures))) ∙ read-open ws qs (f .result) (c .before .before .hold-words .ensures .long) there false)
 
 pub close-spec : {M : Type 1} → statement M
 close-spec =

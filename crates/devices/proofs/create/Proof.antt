@@ -7,7 +7,7 @@ use mathlib.Core.Path.{refl, sym, ap, _∙_}
 use borrow.Author.Needs.{needs}
 use Rattle.errno.specs.declared.Errno.the-variants.{Eexist, Enospc}
 use Rattle.errno.specs.Errno.{numberOf}
-use Rattle.rules.specs.Commands.{freePlace, create, withDevice, newDevice}
+use Rattle.rules.specs.Commands.{freeSlot, create, withDevice, newDevice}
 use Rattle.record.specs.Layout.{deviceIn, stateIn, putDevice}
 use Rattle.record.proofs.Laws.{refused-carried, read-new}
 use Rattle.lookup.proofs.Found.{done-carried}
@@ -22,8 +22,8 @@ returns : tie.Need-returns
 unfolding numberOf
 returns c =
     let a = c .before .before .before .args in
-    refused-carried (create (a .i)) _ (a .s .now) Eexist
-    (λ qs. create-known (a .i) (a .s .now) qs (c .before .find .result) _ (c .before .find .ensures) refl (c .if1 .taken))
+    refused-carried (create (a .id)) _ (a .words .now) Eexist
+    (λ qs. create-known (a .id) (a .words .now) qs (c .before .find .result) _ (c .before .find .ensures) refl (c .if1 .taken))
 
 free-requires : tie.Need-free-requires
 free-requires c κs = search needs
@@ -33,8 +33,8 @@ unfolding numberOf
 returns-2 c =
     let a = c .before .before .before .before .before .before .args in
     let f = c .before .before .before .before .find in
-    refused-carried (create (a .i)) _ (a .s .now) Enospc
-    (λ qs. create-full (a .i) (a .s .now) qs (f .result) (c .before .free .result) (f .ensures) (c .before .free .ensures)
+    refused-carried (create (a .id)) _ (a .words .now) Enospc
+    (λ qs. create-full (a .id) (a .words .now) qs (f .result) (c .before .free .result) (f .ensures) (c .before .free .ensures)
     (c .before .before .before .if1 .left) (c .if2 .taken))
 
 hold-words-requires : tie.Need-hold-words-requires
@@ -46,16 +46,16 @@ put-device-requires c κs = search needs
 returns-3 : tie.Need-returns-3
 returns-3 c =
     let a = c .before .before .before .before .before .before .before .before .before .before .args in
-    let ws = a .s .now in
+    let ws = a .words .now in
     let f = c .before .before .before .before .before .before .before .before .find in
     let e = c .before .before .before .before .before .free in
-    let place : ℕ → List ℕ = λ p. putDevice ws p true (a .i) in
-    done-carried {effect = place (freePlace (deviceIn ws))} (λ qs. withDevice (e .result) (newDevice (a .i)) (stateIn ws qs))
-    (c .put-device .ensures ∙ ap place (e .ensures))
-    (λ qs. create-new (a .i) ws qs (f .result) (e .result) (f .ensures) (e .ensures)
+    let slot : ℕ → List ℕ = λ p. putDevice ws p true (a .id) in
+    done-carried {effect = slot (freeSlot (deviceIn ws))} (λ qs. withDevice (e .result) (newDevice (a .id)) (stateIn ws qs))
+    (c .put-device .ensures ∙ ap slot (e .ensures))
+    (λ qs. create-new (a .id) ws qs (f .result) (e .result) (f .ensures) (e .ensures)
     (c .before .before .before .before .before .before .before .if1 .left) (c .before .before .before .before .if2 .left))
-    (λ qs. ap (λ (l : List ℕ). stateIn l qs) (ap place (sym (e .ensures)))
-    ∙ read-new ws qs (e .result) (c .before .before .hold-words .ensures .long) (c .before .before .before .before .if2 .left) (a .i))
+    (λ qs. ap (λ (l : List ℕ). stateIn l qs) (ap slot (sym (e .ensures)))
+    ∙ read-new ws qs (e .result) (c .before .before .hold-words .ensures .long) (c .before .before .before .before .if2 .left) (a .id))
 
 pub create-spec : {M : Type 1} → statement M
 create-spec =

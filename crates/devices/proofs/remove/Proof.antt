@@ -8,7 +8,7 @@ use borrow.Author.Needs.{needs}
 use Rattle.errno.specs.declared.Errno.the-variants.{Enoent, Ebusy}
 use Rattle.errno.specs.Errno.{numberOf}
 use Rattle.rules.specs.State.{noDevice}
-use Rattle.rules.specs.Commands.{placeOf, remove, withDevice}
+use Rattle.rules.specs.Commands.{slotOf, remove, withDevice}
 use Rattle.record.specs.Layout.{deviceIn, stateIn, putDevice, noId}
 use Rattle.record.proofs.Laws.{refused-carried, read-none}
 use Rattle.lookup.proofs.Found.{unknown, done-carried}
@@ -23,8 +23,8 @@ returns : tie.Need-returns
 unfolding remove numberOf
 returns c =
     let a = c .before .before .before .args in
-    refused-carried (remove (a .i)) _ (a .s .now) Enoent
-    (λ qs. unknown (a .i) (a .s .now) qs (c .before .find .result) (c .before .find .ensures) _ (c .if1 .taken))
+    refused-carried (remove (a .id)) _ (a .words .now) Enoent
+    (λ qs. unknown (a .id) (a .words .now) qs (c .before .find .result) (c .before .find .ensures) _ (c .if1 .taken))
 
 is-open-requires : tie.Need-is-open-requires
 is-open-requires c κs = search needs
@@ -34,8 +34,8 @@ unfolding remove numberOf
 returns-2 c =
     let a = c .before .before .before .before .before .before .args in
     let f = c .before .before .before .before .find in
-    refused-carried (remove (a .i)) _ (a .s .now) Ebusy
-    (λ qs. by-open (a .i) (a .s .now) qs (f .result) (f .ensures) (c .before .before .before .if1 .left) _ (sym (c .if2 .taken) ∙ c .before .is-open .ensures) _ _)
+    refused-carried (remove (a .id)) _ (a .words .now) Ebusy
+    (λ qs. by-open (a .id) (a .words .now) qs (f .result) (f .ensures) (c .before .before .before .if1 .left) _ (sym (c .if2 .taken) ∙ c .before .is-open .ensures) _ _)
 
 hold-words-requires : tie.Need-hold-words-requires
 hold-words-requires c κs = search needs
@@ -47,14 +47,14 @@ returns-3 : tie.Need-returns-3
 unfolding remove
 returns-3 c =
     let a = c .before .before .before .before .before .before .before .before .before .before .args in
-    let ws = a .s .now in
+    let ws = a .words .now in
     let f = c .before .before .before .before .before .before .before .before .find in
     let there = c .before .before .before .before .before .before .before .if1 .left in
     let opened = sym (c .before .before .before .before .if2 .left) ∙ c .before .before .before .before .before .is-open .ensures in
-    let place : ℕ → List ℕ = λ p. putDevice ws p false noId in
-    done-carried {effect = place (placeOf (a .i) (deviceIn ws))} (λ qs. withDevice (f .result) noDevice (stateIn ws qs)) (c .put-device .ensures ∙ ap place (f .ensures))
-    (λ qs. by-open (a .i) ws qs (f .result) (f .ensures) there _ opened _ _)
-    (λ qs. ap (λ (l : List ℕ). stateIn l qs) (ap place (sym (f .ensures))) ∙ read-none ws qs (f .result) (c .before .before .hold-words .ensures .long) there)
+    let slot : ℕ → List ℕ = λ p. putDevice ws p false noId in
+    done-carried {effect = slot (slotOf (a .id) (deviceIn ws))} (λ qs. withDevice (f .result) noDevice (stateIn ws qs)) (c .put-device .ensures ∙ ap slot (f .ensures))
+    (λ qs. by-open (a .id) ws qs (f .result) (f .ensures) there _ opened _ _)
+    (λ qs. ap (λ (l : List ℕ). stateIn l qs) (ap slot (sym (f .ensures))) ∙ read-none ws qs (f .result) (c .before .before .hold-words .ensures .long) there)
 
 pub remove-spec : {M : Type 1} → statement M
 remove-spec =

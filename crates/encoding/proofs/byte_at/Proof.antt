@@ -14,7 +14,7 @@ returns : tie.Need-returns
 returns c = search needs
 
 returns-2 : tie.Need-returns-2
-returns-2 c = sym (List·getD-eq-default (now (c .before .args .b)) 0 {n = c .before .args .i} (c .if1 .left))
+returns-2 c = sym (List·getD-eq-default (now (c .before .args .bytes)) 0 {n = c .before .args .i} (c .if1 .left))
 
 pub byte-at-spec : {M : Type 1} → statement M
 byte-at-spec = tie.close (tie.spec shared-slice-read-result returns returns-2)

@@ -28,8 +28,8 @@ add-byte-at c = search needs
 byte-at-requires : tie.Need-byte-at-requires Inv-loop μ-loop
 byte-at-requires c κs = search needs
 
-array-write-bytes : tie.Need-array-write-bytes Inv-loop μ-loop
-array-write-bytes c = search needs
+array-write-out : tie.Need-array-write-out Inv-loop μ-loop
+array-write-out c = search needs
 
 add-i : tie.Need-add-i Inv-loop μ-loop
 add-i c = search needs
@@ -40,12 +40,12 @@ loop-less c = search needs
 loop-again : tie.Need-loop-again Inv-loop μ-loop
 loop-again c =
     let l = c .before .before .loop in
-    let kept : (j : ℕ) → j < l .i → getD (set (l .bytes) (l .i) (c .byte-at .result)) j 0 ≡ getD (l .bytes) j 0 = λ j h. getD-set-other (l .bytes) (l .i) j (c .byte-at .result) 0 (omega arith) in (
+    let kept : (j : ℕ) → j < l .i → getD (set (l .out) (l .i) (c .byte-at .result)) j 0 ≡ getD (l .out) j 0 = λ j h. getD-set-other (l .out) (l .i) j (c .byte-at .result) 0 (omega arith) in (
       search needs,
       search needs,
       below-more _ _
           (λ j h. kept j h ∙ l .inv .2 j h)
-          (getD-set-same (l .bytes) (l .i) (c .byte-at .result) 0 (omega arith) ∙ c .byte-at .ensures),
+          (getD-set-same (l .out) (l .i) (c .byte-at .result) 0 (omega arith) ∙ c .byte-at .ensures),
     )
 
 from-bytes-requires : tie.Need-from-bytes-requires Inv-loop μ-loop
@@ -55,7 +55,7 @@ returns : tie.Need-returns Inv-loop μ-loop
 returns c =
     let l = c .before .before .loop in
     let s = c .before .before .before .before in
-    same-mask (now (s .args .b)) (l .bytes) (s .args .k) (c .from-bytes .result) (mask-words (c .from-bytes .result) (c .from-bytes .ok)) (c .from-bytes .ensures) (λ j h. l .inv .2 j (omega arith))
+    same-mask (now (s .args .bytes)) (l .out) (s .args .at) (c .from-bytes .result) (mask-words (c .from-bytes .result) (c .from-bytes .ok)) (c .from-bytes .ensures) (λ j h. l .inv .2 j (omega arith))
 
 pub mask-of-spec : {M : Type 1} → statement M
 mask-of-spec =
@@ -66,7 +66,7 @@ mask-of-spec =
     loop-holds
     add-byte-at
     byte-at-requires
-    array-write-bytes
+    array-write-out
     add-i
     loop-less
     loop-again

@@ -10,13 +10,13 @@ use Rattle.encoding.proofs.size_at.Statement.{statement}
 use Rattle.encoding.proofs.size_at.Tie as tie
 
 returns : tie.Need-returns
-returns c = sym (none-left (now (c .before .args .b)) (c .before .args .at) (omega arith))
+returns c = sym (none-left (now (c .before .args .bytes)) (c .before .args .at) (omega arith))
 
 sub-left : tie.Need-sub-left
 sub-left c = search needs
 
 returns-2 : tie.Need-returns-2
-returns-2 c = sym (none-left (now (c .before .before .args .b)) (c .before .before .args .at) (omega arith))
+returns-2 c = sym (none-left (now (c .before .before .args .bytes)) (c .before .before .args .at) (omega arith))
 
 add-size : tie.Need-add-size
 add-size c = search needs
@@ -58,12 +58,12 @@ add-size-4 c =
 returns-3 : tie.Need-returns-3
 returns-3 c =
     let s = c .before .before .before .before .before in
-    sym (part-left (now (s .args .b)) (s .args .at) (omega arith) (omega arith))
+    sym (part-left (now (s .args .bytes)) (s .args .at) (omega arith) (omega arith))
 
 returns-4 : tie.Need-returns-4
 returns-4 c =
     let s = c .before .before .before .before .before in
-    sym (whole-left (now (s .args .b)) (s .args .at) (omega arith))
+    sym (whole-left (now (s .args .bytes)) (s .args .at) (omega arith))
 
 pub size-at-spec : {M : Type 1} → statement M
 size-at-spec =

@@ -50,7 +50,7 @@ loop-again c =
 returns : tie.Need-returns Inv-loop μ-loop
 returns c =
     let l = c .before .loop in
-    same-bytes (now (c .before .before .before .args .b)) (l .types) 96 256 (l .inv .1) (λ j h. l .inv .2 j (omega arith))
+    same-bytes (now (c .before .before .before .args .bytes)) (l .types) 96 256 (l .inv .1) (λ j h. l .inv .2 j (omega arith))
 
 pub types-of-spec : {M : Type 1} → statement M
 types-of-spec =

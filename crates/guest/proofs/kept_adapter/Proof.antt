@@ -33,25 +33,25 @@ returns : tie.Need-returns
 unfolding excluded
 returns c =
     let r = c .before .before .before .before .before .args in
-    let h : r .a < 256 = omega arith in
-    let held : heldBack (r .q .now) (bits (r .domains)) (r .a) ≡ true = not-false _ (sym (c .before .before .row-passed .ensures) ∙ not-true _ (c .before .if2 .taken)) in
+    let h : r .adapter < 256 = omega arith in
+    let held : heldBack (r .drivers .now) (bits (r .domains)) (r .adapter) ≡ true = not-false _ (sym (c .before .before .row-passed .ensures) ∙ not-true _ (c .before .if2 .taken)) in
     c .without .ensures
-    ∙ fun-ext (λ j. ap (λ (n : ℕ). not (eqb j n) && bits (r .m) j) (mod-eq-of-lt h) ∙ dropped (bits (r .m)) (heldBack (r .q .now) (bits (r .domains))) (r .a) held j)
+    ∙ fun-ext (λ j. ap (λ (n : ℕ). not (eqb j n) && bits (r .mask) j) (mod-eq-of-lt h) ∙ dropped (bits (r .mask)) (heldBack (r .drivers .now) (bits (r .domains))) (r .adapter) held j)
 
 returns-2 : tie.Need-returns-2
 returns-2 c =
     let r = c .before .before .before .before .args in
-    let held = heldBack (r .q .now) (bits (r .domains)) in
-    let none : held (r .a) ≡ false = not-true _ (sym (c .before .row-passed .ensures) ∙ not-false _ (c .if2 .left)) in
-    fun-ext (not-there (bits (r .m)) held (r .a) (ap (λ (t : Bool). bits (r .m) (r .a) && t) none ∙ and-false (bits (r .m) (r .a))))
+    let held = heldBack (r .drivers .now) (bits (r .domains)) in
+    let none : held (r .adapter) ≡ false = not-true _ (sym (c .before .row-passed .ensures) ∙ not-false _ (c .if2 .left)) in
+    fun-ext (not-there (bits (r .mask)) held (r .adapter) (ap (λ (t : Bool). bits (r .mask) (r .adapter) && t) none ∙ and-false (bits (r .mask) (r .adapter))))
 
 returns-3 : tie.Need-returns-3
 returns-3 c =
     let r = c .before .before .args in
-    let h : r .a < 256 = omega arith in
-    let held = heldBack (r .q .now) (bits (r .domains)) in
-    let none : bits (r .m) (r .a) ≡ false = ap (bits (r .m)) (sym (mod-eq-of-lt h)) ∙ sym (c .before .has .ensures) ∙ c .if1 .left in
-    fun-ext (not-there (bits (r .m)) held (r .a) (ap (λ (t : Bool). t && held (r .a)) none))
+    let h : r .adapter < 256 = omega arith in
+    let held = heldBack (r .drivers .now) (bits (r .domains)) in
+    let none : bits (r .mask) (r .adapter) ≡ false = ap (bits (r .mask)) (sym (mod-eq-of-lt h)) ∙ sym (c .before .has .ensures) ∙ c .if1 .left in
+    fun-ext (not-there (bits (r .mask)) held (r .adapter) (ap (λ (t : Bool). t && held (r .adapter)) none))
 
 pub kept-adapter-spec : {M : Type 1} → statement M
 kept-adapter-spec =

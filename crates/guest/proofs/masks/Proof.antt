@@ -5,7 +5,7 @@ use mathlib.Core.Path.{ap, _∙_}
 use mathlib.Core.Bool.{cond}
 use lib.Dec.{ltb}
 use borrow.Author.Needs.{needs}
-use Rattle.rules.specs.State.{places}
+use Rattle.rules.specs.State.{slots}
 use Rattle.rules.specs.Queues.{matrixAdapters, matrixDomains, matrixControls}
 use Rattle.record.specs.Layout.{stateIn, deviceIn}
 use Rattle.guest.proofs.masks.Statement.{statement}
@@ -23,14 +23,14 @@ found-requires c κs = search needs
 returns : tie.Need-returns
 returns c =
     let a = c .before .before .before .args in
-    let s = stateIn (a .s .now) (a .q .now) in
-    let v = deviceIn (a .s .now) in
+    let s = stateIn (a .words .now) (a .drivers .now) in
+    let v = deviceIn (a .words .now) in
     let m = c .before .masks-at .ensures in
-    let place = c .before .before .find .ensures in (
-      c .found .ensures ∙ ap (λ (n : ℕ). cond (ltb n places) 0 2) place,
+    let slot = c .before .before .find .ensures in (
+      c .found .ensures ∙ ap (λ (n : ℕ). cond (ltb n slots) 0 2) slot,
       (
-        m .0 ∙ ap (λ (n : ℕ). matrixAdapters (a .w) s (v n)) place,
-        (m .1 .0 ∙ ap (λ (n : ℕ). matrixDomains (a .w) s (v n)) place, m .1 .1 ∙ ap (λ (n : ℕ). matrixControls (a .w) s (v n)) place),
+        m .0 ∙ ap (λ (n : ℕ). matrixAdapters (a .matrix) s (v n)) slot,
+        (m .1 .0 ∙ ap (λ (n : ℕ). matrixDomains (a .matrix) s (v n)) slot, m .1 .1 ∙ ap (λ (n : ℕ). matrixControls (a .matrix) s (v n)) slot),
       ),
     )
 

@@ -51,8 +51,8 @@ returns : tie.Need-returns
 unfolding matrixAdapters matrixDomains matrixControls numbersOf
 returns c =
     let a = c .before .before .before .before .before .args in
-    let s = stateIn (a .s .now) (a .q .now) in
-    let v = deviceIn (a .s .now) (a .p) in
+    let s = stateIn (a .words .now) (a .drivers .now) in
+    let v = deviceIn (a .words .now) (a .slot) in
     let told = sym (c .enum-told .given .1) in (
       c .before .before .before .before .numbers .ensures ∙ ap (λ (w : Matrix). matrixAdapters w s v) told,
       (
@@ -67,13 +67,13 @@ returns-2 c =
     let b = c .before .before .before .before .before in
     let n = b .before .before .before .before in
     let a = n .before .before .before .args in
-    let s = stateIn (a .s .now) (a .q .now) in
-    let v = deviceIn (a .s .now) (a .p) in
+    let s = stateIn (a .words .now) (a .drivers .now) in
+    let v = deviceIn (a .words .now) (a .slot) in
     let told = sym (b .before .before .enum-told2 .given .1) in
     let domains = b .and .ensures ∙ ap₂ both (n .before .numbers2 .ensures) (b .before .configured-domains .ensures) in
     let adapters = c .before .before .before .and2 .ensures ∙ ap₂ both (n .before .before .numbers .ensures) (c .before .before .before .before .configured-adapters .ensures) in
     let controls = c .and3 .ensures ∙ ap₂ both (n .numbers3 .ensures) (c .before .configured-controls .ensures) in (
-      c .before .before .passed-adapters .ensures ∙ guest-adapters (a .s .now) (a .q .now) v adapters domains ∙ ap (λ (w : Matrix). matrixAdapters w s v) told,
+      c .before .before .passed-adapters .ensures ∙ guest-adapters (a .words .now) (a .drivers .now) v adapters domains ∙ ap (λ (w : Matrix). matrixAdapters w s v) told,
       (domains ∙ ap (λ (w : Matrix). matrixDomains w s v) told, controls ∙ ap (λ (w : Matrix). matrixControls w s v) told),
     )
 

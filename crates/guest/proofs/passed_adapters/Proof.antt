@@ -24,14 +24,14 @@ loop-holds : tie.Need-loop-holds Inv-loop μ-loop
 loop-holds c =
     let r = c .args in (
       omega arith,
-      λ j. sym (ap (λ (t : Bool). bits (r .adapters) j && not (t && heldBack (r .q .now) (bits (r .domains)) j)) (le-ltb j 0 zero-le) ∙ and-true (bits (r .adapters) j)),
+      λ j. sym (ap (λ (t : Bool). bits (r .adapters) j && not (t && heldBack (r .drivers .now) (bits (r .domains)) j)) (le-ltb j 0 zero-le) ∙ and-true (bits (r .adapters) j)),
     )
 
 kept-adapter-requires : tie.Need-kept-adapter-requires Inv-loop μ-loop
 kept-adapter-requires c κs = search needs
 
-add-a : tie.Need-add-a Inv-loop μ-loop
-add-a c = search needs
+add-adapter : tie.Need-add-adapter Inv-loop μ-loop
+add-adapter c = search needs
 
 loop-less : tie.Need-loop-less Inv-loop μ-loop
 loop-less c = search needs
@@ -40,18 +40,18 @@ loop-again : tie.Need-loop-again Inv-loop μ-loop
 loop-again c =
     let r = c .before .before .before .args in
     let l = c .before .before .loop in
-    let held = heldBack (r .q .now) (bits (r .domains)) in (
+    let held = heldBack (r .drivers .now) (bits (r .domains)) in (
       omega arith,
-      λ j. ap (λ (f : Bits). f j) (c .kept-adapter .ensures) ∙ ap (λ (t : Bool). t && not (eqb j (l .a) && held j)) (l .inv .1 j)
-          ∙ next-look j (l .a) (bits (r .adapters) j) (held j),
+      λ j. ap (λ (f : Bits). f j) (c .kept-adapter .ensures) ∙ ap (λ (t : Bool). t && not (eqb j (l .adapter) && held j)) (l .inv .1 j)
+          ∙ next-look j (l .adapter) (bits (r .adapters) j) (held j),
     )
 
 returns : tie.Need-returns Inv-loop μ-loop
 returns c =
     let r = c .before .before .args in
     let l = c .before .loop in
-    let held = heldBack (r .q .now) (bits (r .domains)) in
-    let last : l .a ≡ 256 = omega arith in
+    let held = heldBack (r .drivers .now) (bits (r .domains)) in
+    let last : l .adapter ≡ 256 = omega arith in
     fun-ext
     (λ j. l .inv .1 j ∙ ap (λ (n : ℕ). bits (r .adapters) j && not (ltb j n && held j)) last
     ∙ all-looked j (bits (r .adapters) j) (held j) (λ h. past-end j (omega arith) (mask-words (r .adapters) (c .before .before .good .1 .0)) h))
@@ -59,4 +59,4 @@ returns c =
 pub passed-adapters-spec : {M : Type 1} → statement M
 passed-adapters-spec =
     tie.close
-    (tie.spec Inv-loop μ-loop loop-holds kept-adapter-requires add-a loop-less loop-again returns)
+    (tie.spec Inv-loop μ-loop loop-holds kept-adapter-requires add-adapter loop-less loop-again returns)

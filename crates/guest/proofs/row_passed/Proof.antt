@@ -44,14 +44,14 @@ returns : tie.Need-returns Inv-loop μ-loop
 unfolding heldBack
 returns c =
     let a = c .before .before .before .before .before .before .args in
-    let d = c .before .before .before .before .before .loop .d in
+    let d = c .before .before .before .before .before .loop .domain in
     let h : d < 256 = omega arith in
-    let lost : missing (a .q .now) (bits (a .domains)) (a .a) d ≡ true = missing-at (a .q .now) (bits (a .domains)) (a .a) d true false
+    let lost : missing (a .drivers .now) (bits (a .domains)) (a .adapter) d ≡ true = missing-at (a .drivers .now) (bits (a .domains)) (a .adapter) d true false
     (ap (bits (a .domains)) (sym (mod-eq-of-lt h)) ∙ sym (c .before .before .before .has .ensures) ∙ c .before .before .if1 .taken) (ne-eqb _ 2 (c .if2 .taken)) in
-    ap not (sym (some-intro 256 (missing (a .q .now) (bits (a .domains)) (a .a)) d h lost))
+    ap not (sym (some-intro 256 (missing (a .drivers .now) (bits (a .domains)) (a .adapter)) d h lost))
 
-add-d : tie.Need-add-d Inv-loop μ-loop
-add-d c = search needs
+add-domain : tie.Need-add-domain Inv-loop μ-loop
+add-domain c = search needs
 
 loop-less : tie.Need-loop-less Inv-loop μ-loop
 loop-less c = search needs
@@ -60,9 +60,9 @@ loop-again : tie.Need-loop-again Inv-loop μ-loop
 loop-again c =
     let a = c .before .before .before .before .args in
     let l = c .before .before .before .loop in
-    let h : l .d < 256 = omega arith in
-    let wanted : bits (a .domains) (l .d) ≡ c .before .has .result = ap (bits (a .domains)) (sym (mod-eq-of-lt h)) ∙ sym (c .before .has .ensures) in
-    let at = missing-at (a .q .now) (bits (a .domains)) (a .a) (l .d) in (
+    let h : l .domain < 256 = omega arith in
+    let wanted : bits (a .domains) (l .domain) ≡ c .before .has .result = ap (bits (a .domains)) (sym (mod-eq-of-lt h)) ∙ sym (c .before .has .ensures) in
+    let at = missing-at (a .drivers .now) (bits (a .domains)) (a .adapter) (l .domain) in (
       search needs,
       below-more _ _ (l .inv .1) (⊎-elim (λ w. at true true (wanted ∙ w .0 .taken) (eq-eqb _ 2 (w .2 .left))) (λ w. at false _ (wanted ∙ w .left) refl) (c .if1 .came)),
     )
@@ -71,7 +71,7 @@ returns-2 : tie.Need-returns-2 Inv-loop μ-loop
 unfolding heldBack
 returns-2 c =
     let a = c .before .before .args in
-    ap not (sym (none-some 256 (missing (a .q .now) (bits (a .domains)) (a .a)) (λ k h. c .before .loop .inv .1 k (omega arith))))
+    ap not (sym (none-some 256 (missing (a .drivers .now) (bits (a .domains)) (a .adapter)) (λ k h. c .before .loop .inv .1 k (omega arith))))
 
 pub row-passed-spec : {M : Type 1} → statement M
 row-passed-spec =
@@ -86,7 +86,7 @@ row-passed-spec =
     add-if2
     element-copy-out-if2
     returns
-    add-d
+    add-domain
     loop-less
     loop-again
     returns-2)

@@ -22,7 +22,7 @@ returns : tie.Need-returns
 returns c =
     let t = c .before .before .before in
     let a = t .args in
-    usable-by (stateIn (a .s .now) (a .q .now)) (deviceIn (a .s .now)) (a .a .0) (a .d .0) false _ _ (c .before .before .find .ensures) (omega (arith, t))
+    usable-by (stateIn (a .words .now) (a .drivers .now)) (deviceIn (a .words .now)) (a .adapter .0) (a .domain .0) false _ _ (c .before .before .find .ensures) (omega (arith, t))
     (sym (c .before .is-open .ensures) ∙ not-true _ (c .if1 .taken)) refl refl
 
 masks-at-requires : tie.Need-masks-at-requires
@@ -38,9 +38,9 @@ returns-2 c =
     let b = m .before in
     let t = b .before .before .before in
     let a = t .args in
-    usable-by (stateIn (a .s .now) (a .q .now)) (deviceIn (a .s .now)) (a .a .0) (a .d .0) true false _ (b .before .before .find .ensures) (omega (arith, t))
+    usable-by (stateIn (a .words .now) (a .drivers .now)) (deviceIn (a .words .now)) (a .adapter .0) (a .domain .0) true false _ (b .before .before .find .ensures) (omega (arith, t))
     (sym (b .before .is-open .ensures) ∙ not-false _ (b .if1 .left))
-    (ap (λ (f : Bits). f (a .a .0)) (sym (m .masks-at .ensures .0)) ∙ sym (c .before .has .ensures) ∙ not-true _ (c .if2 .taken)) refl
+    (ap (λ (f : Bits). f (a .adapter .0)) (sym (m .masks-at .ensures .0)) ∙ sym (c .before .has .ensures) ∙ not-true _ (c .if2 .taken)) refl
 
 has-requires-2 : tie.Need-has-requires-2
 has-requires-2 c κs = search needs
@@ -53,10 +53,10 @@ returns-3 c =
     let b = m .before in
     let t = b .before .before .before in
     let a = t .args in
-    usable-by (stateIn (a .s .now) (a .q .now)) (deviceIn (a .s .now)) (a .a .0) (a .d .0) true true (c .has2 .result) (b .before .before .find .ensures)
+    usable-by (stateIn (a .words .now) (a .drivers .now)) (deviceIn (a .words .now)) (a .adapter .0) (a .domain .0) true true (c .has2 .result) (b .before .before .find .ensures)
     (omega (arith, t)) (sym (b .before .is-open .ensures) ∙ not-false _ (b .if1 .left))
-    (ap (λ (f : Bits). f (a .a .0)) (sym (m .masks-at .ensures .0)) ∙ sym (u .before .has .ensures) ∙ not-false _ (u .if2 .left))
-    (ap (λ (f : Bits). f (a .d .0)) (sym (m .masks-at .ensures .1 .0)) ∙ sym (c .has2 .ensures))
+    (ap (λ (f : Bits). f (a .adapter .0)) (sym (m .masks-at .ensures .0)) ∙ sym (u .before .has .ensures) ∙ not-false _ (u .if2 .left))
+    (ap (λ (f : Bits). f (a .domain .0)) (sym (m .masks-at .ensures .1 .0)) ∙ sym (c .has2 .ensures))
 
 pub usable-spec : {M : Type 1} → statement M
 usable-spec =

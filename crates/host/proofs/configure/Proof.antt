@@ -20,9 +20,9 @@ exceeds-requires c κs = search needs
 returns : tie.Need-returns
 returns c =
     let a = c .before .before .before .before .before .before .before .args in
-    let g = a .c in
-    config-refused g (a .s .now) (a .q .now)
-    (by-limits g (a .s .now) (a .q .now) true _ _
+    let g = a .configuration in
+    config-refused g (a .words .now) (a .drivers .now)
+    (by-limits g (a .words .now) (a .drivers .now) true _ _
     (above (g .adapters) _ _ _ _ (c .if1 .taken) (c .before .exceeds .ensures) (c .before .before .max-adapter .ensures))
     refl
     refl)
@@ -36,9 +36,9 @@ exceeds-requires-2 c κs = search needs
 returns-2 : tie.Need-returns-2
 returns-2 c =
     let a = c .before .before .before .before .before .before .before .before .before .before .before .args in
-    let g = a .c in
-    config-refused g (a .s .now) (a .q .now)
-    (by-limits g (a .s .now) (a .q .now) false true _
+    let g = a .configuration in
+    config-refused g (a .words .now) (a .drivers .now)
+    (by-limits g (a .words .now) (a .drivers .now) false true _
     (above (g .adapters) _ _ _ _ (c .before .before .before .before .if1 .left) (c .before .before .before .before .before .exceeds .ensures) (c .before .before .before .before .before .before .max-adapter .ensures))
     (above (g .domains) _ _ _ _ (c .if2 .taken) (c .before .exceeds2 .ensures) (c .before .before .max-domain .ensures))
     refl)
@@ -52,9 +52,9 @@ exceeds-requires-3 c κs = search needs
 returns-3 : tie.Need-returns-3
 returns-3 c =
     let a = c .before .before .before .before .before .before .before .before .before .before .before .before .before .before .before .args in
-    let g = a .c in
-    config-refused g (a .s .now) (a .q .now)
-    (by-limits g (a .s .now) (a .q .now) false false true
+    let g = a .configuration in
+    config-refused g (a .words .now) (a .drivers .now)
+    (by-limits g (a .words .now) (a .drivers .now) false false true
     (above (g .adapters) _ _ _ _ (c .before .before .before .before .before .before .before .before .if1 .left) (c .before .before .before .before .before .before .before .before .before .exceeds .ensures) (c .before .before .before .before .before .before .before .before .before .before .max-adapter .ensures))
     (above (g .domains) _ _ _ _ (c .before .before .before .before .if2 .left) (c .before .before .before .before .before .exceeds2 .ensures) (c .before .before .before .before .before .before .max-domain .ensures))
     (above (g .controls) _ _ _ _ (c .if3 .taken) (c .before .exceeds3 .ensures) (c .before .before .max-domain2 .ensures)))
@@ -81,9 +81,9 @@ returns-4 : tie.Need-returns-4
 returns-4 c =
     let a = c .before .before .before .before .before .before .before .before .before .before .before .before .before .before .before .before .before .before .before .before .before .before .before .before .before .before .before .args in
     let owned = c .before .before .before .before .before .before .before .before .before .before .before .before .before .before .before .before .before .before .before .before .before .before .before .before .before .before .before .good .1 .1 .0 in
-    let g = a .c in
-    let ws = a .s .now in
-    let qs = a .q .now in
+    let g = a .configuration in
+    let ws = a .words .now in
+    let qs = a .drivers .now in
     config-done g ws qs
     (by-limits g ws qs false false false
     (above (g .adapters) _ _ _ _ (c .before .before .before .before .before .before .before .before .before .before .before .before .before .before .before .before .before .before .before .before .if1 .left) (c .before .before .before .before .before .before .before .before .before .before .before .before .before .before .before .before .before .before .before .before .before .exceeds .ensures) (c .before .before .before .before .before .before .before .before .before .before .before .before .before .before .before .before .before .before .before .before .before .before .max-adapter .ensures))

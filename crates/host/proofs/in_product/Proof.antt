@@ -26,14 +26,14 @@ returns : tie.Need-returns
 unfolding inProduct
 returns c =
     let a = c .before .before .before .args in
-    let apid : a .k / 256 % 256 ≡ a .k / 256 = omega (arith, c .before .before .before .pre) in
+    let apid : a .queue / 256 % 256 ≡ a .queue / 256 = omega (arith, c .before .before .before .pre) in
     c .has2 .ensures ∙ sym (and-yes (ap (bits (a .adapters)) (sym apid) ∙ sym (c .before .before .has .ensures) ∙ c .before .if1 .taken))
 
 returns-2 : tie.Need-returns-2
 unfolding inProduct
 returns-2 c =
     let a = c .before .before .args in
-    let apid : a .k / 256 % 256 ≡ a .k / 256 = omega (arith, c .before .before .pre) in
+    let apid : a .queue / 256 % 256 ≡ a .queue / 256 = omega (arith, c .before .before .pre) in
     sym (and-no _ (ap (bits (a .adapters)) (sym apid) ∙ sym (c .before .has .ensures) ∙ c .if1 .left))
 
 pub in-product-spec : {M : Type 1} → statement M

@@ -33,11 +33,11 @@ loop-holds c = (omega arith, refl)
 gone-requires : tie.Need-gone-requires Inv-loop μ-loop
 gone-requires c κs = search needs
 
-element-write-q : tie.Need-element-write-q Inv-loop μ-loop
-element-write-q c = search needs
+element-write-drivers : tie.Need-element-write-drivers Inv-loop μ-loop
+element-write-drivers c = search needs
 
-add-k : tie.Need-add-k Inv-loop μ-loop
-add-k c = search needs
+add-queue : tie.Need-add-queue Inv-loop μ-loop
+add-queue c = search needs
 
 loop-less : tie.Need-loop-less Inv-loop μ-loop
 loop-less c = search needs
@@ -49,16 +49,16 @@ loop-again c =
     let us = taken (bits (a .was-adapters)) (bits (a .was-domains)) (bits (a .adapters)) (bits (a .domains)) in (
       omega arith,
       ⊎-elim
-          (λ w. w .1 ∙ ap (λ (q : List ℕ). set q (l .k) 0) (l .inv .1) ∙ unbind-next (a .q .now) us (l .k) true (sym (w .0 .taken) ∙ c .before .gone .ensures))
-          (λ w. w .1 ∙ l .inv .1 ∙ unbind-next (a .q .now) us (l .k) false (sym (w .0 .left) ∙ c .before .gone .ensures))
+          (λ w. w .1 ∙ ap (λ (q : List ℕ). set q (l .queue) 0) (l .inv .1) ∙ unbind-next (a .drivers .now) us (l .queue) true (sym (w .0 .taken) ∙ c .before .gone .ensures))
+          (λ w. w .1 ∙ l .inv .1 ∙ unbind-next (a .drivers .now) us (l .queue) false (sym (w .0 .left) ∙ c .before .gone .ensures))
           (c .if1 .came),
     )
 
 returns : tie.Need-returns Inv-loop μ-loop
 returns c =
     let a = c .before .before .args in
-    let last : c .before .loop .k ≡ 65536 = omega arith in
-    c .before .loop .inv .1 ∙ ap (unbind (a .q .now) (taken (bits (a .was-adapters)) (bits (a .was-domains)) (bits (a .adapters)) (bits (a .domains)))) last
+    let last : c .before .loop .queue ≡ 65536 = omega arith in
+    c .before .loop .inv .1 ∙ ap (unbind (a .drivers .now) (taken (bits (a .was-adapters)) (bits (a .was-domains)) (bits (a .adapters)) (bits (a .domains)))) last
 
 pub unbind-spec : {M : Type 1} → statement M
 unbind-spec =
@@ -68,8 +68,8 @@ unbind-spec =
     μ-loop
     loop-holds
     gone-requires
-    element-write-q
-    add-k
+    element-write-drivers
+    add-queue
     loop-less
     loop-again
     returns)

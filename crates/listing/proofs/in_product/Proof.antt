@@ -25,14 +25,14 @@ has-requires-2 c κs = search needs
 returns : tie.Need-returns
 returns c =
     let a = c .before .before .before .args in
-    let has : bits (a .adapters) (a .k / 256 % 256) ≡ true = sym (c .before .before .has .ensures) ∙ c .before .if1 .taken in
-    c .has2 .ensures ∙ sym (product-at (bits (a .adapters)) (bits (a .domains)) (a .k) (omega arith) ∙ rw has)
+    let has : bits (a .adapters) (a .queue / 256 % 256) ≡ true = sym (c .before .before .has .ensures) ∙ c .before .if1 .taken in
+    c .has2 .ensures ∙ sym (product-at (bits (a .adapters)) (bits (a .domains)) (a .queue) (omega arith) ∙ rw has)
 
 returns-2 : tie.Need-returns-2
 returns-2 c =
     let a = c .before .before .args in
-    let lacks : bits (a .adapters) (a .k / 256 % 256) ≡ false = sym (c .before .has .ensures) ∙ c .if1 .left in
-    sym (product-at (bits (a .adapters)) (bits (a .domains)) (a .k) (omega arith) ∙ rw lacks)
+    let lacks : bits (a .adapters) (a .queue / 256 % 256) ≡ false = sym (c .before .has .ensures) ∙ c .if1 .left in
+    sym (product-at (bits (a .adapters)) (bits (a .domains)) (a .queue) (omega arith) ∙ rw lacks)
 
 pub in-product-spec : {M : Type 1} → statement M
 in-product-spec =

@@ -19,14 +19,14 @@ count-requires-2 c κs = search needs
 
 mul-result : tie.Need-mul-result
 mul-result c =
-    let a = c .before .before .before .before .args .m in
+    let a = c .before .before .before .before .args .masks in
     let adapters : c .before .count .result ≤ 256 = omega (arith, c .before .count .ensures, count-le 256 (bits (a .adapters))) in
     let domains : c .count2 .result ≤ 256 = omega (arith, c .count2 .ensures, count-le 256 (bits (a .domains))) in
     omega (arith, mul-le-mul adapters domains)
 
 returns : tie.Need-returns
 returns c =
-    let a = c .before .before .before .before .args .m in
+    let a = c .before .before .before .before .args .masks in
     ap₂ _*_ (c .before .count .ensures) (c .count2 .ensures) ∙ sym (matrix-lines (bits (a .adapters)) (bits (a .domains)))
 
 pub lines-spec : {M : Type 1} → statement M

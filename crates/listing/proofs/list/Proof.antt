@@ -22,7 +22,7 @@ unfolding numberOf
 returns c =
     let a = c .before .before .before .before .args in
     refused-listing (c .refused .result) 1 (c .refused .ensures .0)
-    (errno-absent (now (a .s)) (a .i) (length (now (a .buf))) (omega (arith, c .before .before .find .ensures)))
+    (errno-absent (now (a .words)) (a .id) (length (now (a .buf))) (omega (arith, c .before .before .find .ensures)))
     (c .refused .ensures .1)
     (c .refused .ensures .2)
 
@@ -34,7 +34,7 @@ unfolding numberOf
 returns-2 c =
     let a = c .before .before .before .before .before .args in
     refused-listing (c .refused2 .result) 27 (c .refused2 .ensures .0)
-    (errno-short (now (a .s)) (a .i) (length (now (a .buf))) (omega (arith, c .before .before .before .find .ensures)) (omega arith))
+    (errno-short (now (a .words)) (a .id) (length (now (a .buf))) (omega (arith, c .before .before .before .find .ensures)) (omega arith))
     (c .refused2 .ensures .1)
     (c .refused2 .ensures .2)
 
@@ -53,8 +53,8 @@ returns-3 c =
     let p = c .before .before .before .before .before .before .before .before .before .find in
     let m = c .before .before .before .before .before .before .masks-at in
     written-listing (c .before .before .write .result) (inProduct (bits (m .result .adapters)) (bits (m .result .domains))) (c .before .before .write .ensures .0)
-    (errno-none (now (a .s)) (a .i) (length (now (a .buf))) (omega (arith, p .ensures)) (omega arith))
-    (matrix-at (now (a .s)) (now (a .q)) (a .i) (a .w) (p .ensures) (m .ensures .0) (m .ensures .1 .0))
+    (errno-none (now (a .words)) (a .id) (length (now (a .buf))) (omega (arith, p .ensures)) (omega arith))
+    (matrix-at (now (a .words)) (now (a .drivers)) (a .id) (a .matrix) (p .ensures) (m .ensures .0) (m .ensures .1 .0))
     (c .before .before .write .ensures .1)
 
 pub list-spec : {M : Type 1} → statement M

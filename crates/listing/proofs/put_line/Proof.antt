@@ -77,7 +77,7 @@ same-length c = simp length-set
 returns : tie.Need-returns
 returns c =
     let a = c .before .before .before .before .before .args in
-    line-stores (now (a .buf)) (a .at) (a .k) _ _ _ _ (omega arith) (omega arith)
+    line-stores (now (a .buf)) (a .at) (a .queue) _ _ _ _ (omega arith) (omega arith)
     (c .before .before .before .hex-digit .ensures) (c .before .before .hex-digit2 .ensures) (c .before .hex-digit3 .ensures) (c .hex-digit4 .ensures)
 
 pub put-line-spec : {M : Type 1} → statement M

@@ -43,8 +43,8 @@ put-line-requires c κs = search needs
 add-at : tie.Need-add-at Inv-loop μ-loop
 add-at c = search needs
 
-add-k : tie.Need-add-k Inv-loop μ-loop
-add-k c = search needs
+add-queue : tie.Need-add-queue Inv-loop μ-loop
+add-queue c = search needs
 
 loop-less : tie.Need-loop-less Inv-loop μ-loop
 loop-less c = search needs
@@ -78,7 +78,7 @@ write-spec =
     returns
     put-line-requires
     add-at
-    add-k
+    add-queue
     loop-less
     loop-again
     same-length-2

@@ -1,4 +1,4 @@
--- `find` meets its contract. The loop's invariant: the first of the places left is the answer.
+-- `find` meets its contract. The loop's invariant: the first of the slots left is the answer.
 -- Assumes nothing.
 use Prim.Native.Nat.{ℕ, _-_, _≤_}
 use native.Mathlib.Omega.{arith}
@@ -8,25 +8,25 @@ use mathlib.Core.Path.{_≡_, refl, sym, _∙_}
 use borrow.Author.Needs.{needs}
 use Rattle.mask.specs.Bits.{Bits}
 use Rattle.rules.specs.declared.Id.{Id}
-use Rattle.rules.specs.Commands.{firstFrom, placeOf, sameId}
-use Rattle.rules.proofs.Places.{turn-here, turn-next, turn-end}
+use Rattle.rules.specs.Commands.{firstFrom, slotOf, sameId}
+use Rattle.rules.proofs.First.{turn-here, turn-next, turn-end}
 use Rattle.record.specs.Layout.{deviceIn}
 use Rattle.lookup.proofs.find.Statement.{statement}
 use Rattle.lookup.proofs.find.Tie as tie
 
--- the device with the id is at a place
+-- the device with the id is at a slot
 abbrev here : Id → List ℕ → Bits
 here i ws j = deviceIn ws j .present && sameId i (deviceIn ws j .id)
 
 abbrev Inv-loop : tie.InvT-loop
 Inv-loop s i p₀ p =
-    (p ≤ 8) × (placeOf i (deviceIn s) ≡ firstFrom (8 - p) p (here i s))
+    (p ≤ 8) × (slotOf i (deviceIn s) ≡ firstFrom (8 - p) p (here i s))
 
 abbrev μ-loop : tie.MeasureT-loop
 μ-loop s i p₀ p = 8 - p
 
 loop-holds : tie.Need-loop-holds Inv-loop μ-loop
-unfolding placeOf
+unfolding slotOf
 loop-holds c = (omega arith, refl)
 
 is-at-requires : tie.Need-is-at-requires Inv-loop μ-loop
@@ -36,10 +36,10 @@ returns : tie.Need-returns Inv-loop μ-loop
 returns c =
     let a = c .before .before .before .before .args in
     let l = c .before .before .before .loop in
-    sym (l .inv .1 ∙ turn-here 8 (l .p) (here (a .i) (a .s .now)) (omega arith) (sym (c .before .is-at .ensures) ∙ c .if1 .taken))
+    sym (l .inv .1 ∙ turn-here 8 (l .slot) (here (a .id) (a .words .now)) (omega arith) (sym (c .before .is-at .ensures) ∙ c .if1 .taken))
 
-add-p : tie.Need-add-p Inv-loop μ-loop
-add-p c = search needs
+add-slot : tie.Need-add-slot Inv-loop μ-loop
+add-slot c = search needs
 
 loop-less : tie.Need-loop-less Inv-loop μ-loop
 loop-less c = search needs
@@ -48,13 +48,13 @@ loop-again : tie.Need-loop-again Inv-loop μ-loop
 loop-again c =
     let a = c .before .before .before .before .args in
     let l = c .before .before .before .loop in
-    (omega arith, l .inv .1 ∙ turn-next 8 (l .p) (here (a .i) (a .s .now)) (omega arith) (sym (c .before .is-at .ensures) ∙ c .if1 .left))
+    (omega arith, l .inv .1 ∙ turn-next 8 (l .slot) (here (a .id) (a .words .now)) (omega arith) (sym (c .before .is-at .ensures) ∙ c .if1 .left))
 
 returns-2 : tie.Need-returns-2 Inv-loop μ-loop
 returns-2 c =
     let a = c .before .before .args in
     let l = c .before .loop in
-    sym (l .inv .1 ∙ turn-end 8 (l .p) (here (a .i) (a .s .now)) (omega arith))
+    sym (l .inv .1 ∙ turn-end 8 (l .slot) (here (a .id) (a .words .now)) (omega arith))
 
 pub find-spec : {M : Type 1} → statement M
 find-spec =
@@ -65,7 +65,7 @@ find-spec =
     loop-holds
     is-at-requires
     returns
-    add-p
+    add-slot
     loop-less
     loop-again
     returns-2)

@@ -1,4 +1,4 @@
--- `free` meets its contract. The loop's invariant: the first of the places left is the answer.
+-- `free` meets its contract. The loop's invariant: the first of the slots left is the answer.
 -- Assumes nothing.
 use Prim.Native.Nat.{ℕ, _-_, _≤_}
 use native.Mathlib.Omega.{arith}
@@ -7,24 +7,24 @@ use mathlib.Core.Bool.{not}
 use mathlib.Core.Path.{_≡_, refl, sym, ap, _∙_}
 use borrow.Author.Needs.{needs}
 use Rattle.mask.specs.Bits.{Bits}
-use Rattle.rules.specs.Commands.{firstFrom, freePlace}
-use Rattle.rules.proofs.Places.{turn-here, turn-next, turn-end}
+use Rattle.rules.specs.Commands.{firstFrom, freeSlot}
+use Rattle.rules.proofs.First.{turn-here, turn-next, turn-end}
 use Rattle.record.specs.Layout.{deviceIn}
 use Rattle.lookup.proofs.free.Statement.{statement}
 use Rattle.lookup.proofs.free.Tie as tie
 
--- there is no device at a place
+-- there is no device at a slot
 abbrev empty : List ℕ → Bits
 empty ws j = not (deviceIn ws j .present)
 
 abbrev Inv-loop : tie.InvT-loop
-Inv-loop s p₀ p = (p ≤ 8) × (freePlace (deviceIn s) ≡ firstFrom (8 - p) p (empty s))
+Inv-loop s p₀ p = (p ≤ 8) × (freeSlot (deviceIn s) ≡ firstFrom (8 - p) p (empty s))
 
 abbrev μ-loop : tie.MeasureT-loop
 μ-loop s p₀ p = 8 - p
 
 loop-holds : tie.Need-loop-holds Inv-loop μ-loop
-unfolding freePlace
+unfolding freeSlot
 loop-holds c = (omega arith, refl)
 
 occupied-requires : tie.Need-occupied-requires Inv-loop μ-loop
@@ -34,10 +34,10 @@ returns : tie.Need-returns Inv-loop μ-loop
 returns c =
     let a = c .before .before .before .before .args in
     let l = c .before .before .before .loop in
-    sym (l .inv .1 ∙ turn-here 8 (l .p) (empty (a .s .now)) (omega arith) (ap not (sym (c .before .occupied .ensures)) ∙ c .if1 .taken))
+    sym (l .inv .1 ∙ turn-here 8 (l .slot) (empty (a .words .now)) (omega arith) (ap not (sym (c .before .occupied .ensures)) ∙ c .if1 .taken))
 
-add-p : tie.Need-add-p Inv-loop μ-loop
-add-p c = search needs
+add-slot : tie.Need-add-slot Inv-loop μ-loop
+add-slot c = search needs
 
 loop-less : tie.Need-loop-less Inv-loop μ-loop
 loop-less c = search needs
@@ -46,13 +46,13 @@ loop-again : tie.Need-loop-again Inv-loop μ-loop
 loop-again c =
     let a = c .before .before .before .before .args in
     let l = c .before .before .before .loop in
-    (omega arith, l .inv .1 ∙ turn-next 8 (l .p) (empty (a .s .now)) (omega arith) (ap not (sym (c .before .occupied .ensures)) ∙ c .if1 .left))
+    (omega arith, l .inv .1 ∙ turn-next 8 (l .slot) (empty (a .words .now)) (omega arith) (ap not (sym (c .before .occupied .ensures)) ∙ c .if1 .left))
 
 returns-2 : tie.Need-returns-2 Inv-loop μ-loop
 returns-2 c =
     let a = c .before .before .args in
     let l = c .before .loop in
-    sym (l .inv .1 ∙ turn-end 8 (l .p) (empty (a .s .now)) (omega arith))
+    sym (l .inv .1 ∙ turn-end 8 (l .slot) (empty (a .words .now)) (omega arith))
 
 pub free-spec : {M : Type 1} → statement M
 free-spec =
@@ -63,7 +63,7 @@ free-spec =
     loop-holds
     occupied-requires
     returns
-    add-p
+    add-slot
     loop-less
     loop-again
     returns-2)

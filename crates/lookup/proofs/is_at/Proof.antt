@@ -20,7 +20,7 @@ returns c =
     let a = c .before .before .before .before .before .before .before .before .args in
     let there = sym (c .before .before .before .before .before .before .before .occupied .ensures) ∙ c .before .before .before .before .before .before .if1 .taken in
     let same = c .before .before .before .before .before .id .ensures in
-    sym (and-yes there ∙ ap (sameId (a .i)) (sym same) ∙ and-yes (eq-eqb _ _ (c .before .before .if2 .taken)))
+    sym (and-yes there ∙ ap (sameId (a .id)) (sym same) ∙ and-yes (eq-eqb _ _ (c .before .before .if2 .taken)))
 
 returns-2 : tie.Need-returns-2
 unfolding sameId
@@ -28,7 +28,7 @@ returns-2 c =
     let a = c .before .before .before .before .before .before .args in
     let there = sym (c .before .before .before .before .before .occupied .ensures) ∙ c .before .before .before .before .if1 .taken in
     let same = c .before .before .before .id .ensures in
-    sym (and-yes there ∙ ap (sameId (a .i)) (sym same) ∙ and-no _ (ne-eqb _ _ (c .if2 .left)))
+    sym (and-yes there ∙ ap (sameId (a .id)) (sym same) ∙ and-no _ (ne-eqb _ _ (c .if2 .left)))
 
 returns-3 : tie.Need-returns-3
 returns-3 c = sym (and-no _ (sym (c .before .occupied .ensures) ∙ c .if1 .left))

@@ -1,4 +1,4 @@
--- `taken` meets its contract. The loop's invariant: no device at a place passed shares a queue.
+-- `taken` meets its contract. The loop's invariant: no device at a slot passed shares a queue.
 -- Assumes nothing.
 use Prim.Native.Nat.{ℕ, _-_, _≤_}
 use native.Mathlib.Omega.{arith}
@@ -31,14 +31,14 @@ shares-requires c κs = search needs
 returns : tie.Need-returns Inv-loop μ-loop
 returns c =
     let a = c .before .before .before .before .before .args in
-    let j = c .before .before .before .before .loop .j in
-    let f = shared (a .p) (deviceIn (a .s .now)) (bits (a .adapters)) (bits (a .domains)) in
-    sym (taken-by (a .p) (deviceIn (a .s .now)) (bits (a .adapters)) (bits (a .domains))
+    let j = c .before .before .before .before .loop .other in
+    let f = shared (a .slot) (deviceIn (a .words .now)) (bits (a .adapters)) (bits (a .domains)) in
+    sym (taken-by (a .slot) (deviceIn (a .words .now)) (bits (a .adapters)) (bits (a .domains))
     ∙ some-intro 8 f j (omega arith)
-    (and-yes (ap not (ne-eqb j (a .p) (c .before .before .if1 .taken))) ∙ sym (c .before .shares .ensures) ∙ c .if2 .taken))
+    (and-yes (ap not (ne-eqb j (a .slot) (c .before .before .if1 .taken))) ∙ sym (c .before .shares .ensures) ∙ c .if2 .taken))
 
-add-j : tie.Need-add-j Inv-loop μ-loop
-add-j c = search needs
+add-other : tie.Need-add-other Inv-loop μ-loop
+add-other c = search needs
 
 loop-less : tie.Need-loop-less Inv-loop μ-loop
 loop-less c = search needs
@@ -47,12 +47,12 @@ loop-again : tie.Need-loop-again Inv-loop μ-loop
 loop-again c =
     let a = c .before .before .before .args in
     let l = c .before .before .loop in
-    let f = shared (a .p) (deviceIn (a .s .now)) (bits (a .adapters)) (bits (a .domains)) in (
+    let f = shared (a .slot) (deviceIn (a .words .now)) (bits (a .adapters)) (bits (a .domains)) in (
       omega arith,
-      none-next (l .j) f (l .inv .1)
+      none-next (l .other) f (l .inv .1)
           (⊎-elim
-          (λ w. and-yes (ap not (ne-eqb (l .j) (a .p) (w .0 .taken))) ∙ sym (w .1 .ensures) ∙ w .2 .left)
-          (λ w. and-no _ (ap not (eq-eqb (l .j) (a .p) (w .left))))
+          (λ w. and-yes (ap not (ne-eqb (l .other) (a .slot) (w .0 .taken))) ∙ sym (w .1 .ensures) ∙ w .2 .left)
+          (λ w. and-no _ (ap not (eq-eqb (l .other) (a .slot) (w .left))))
           (c .if1 .came)),
     )
 
@@ -60,9 +60,9 @@ returns-2 : tie.Need-returns-2 Inv-loop μ-loop
 returns-2 c =
     let a = c .before .before .args in
     let l = c .before .loop in
-    let f = shared (a .p) (deviceIn (a .s .now)) (bits (a .adapters)) (bits (a .domains)) in
-    let last : l .j ≡ 8 = omega arith in
-    sym (taken-by (a .p) (deviceIn (a .s .now)) (bits (a .adapters)) (bits (a .domains))
+    let f = shared (a .slot) (deviceIn (a .words .now)) (bits (a .adapters)) (bits (a .domains)) in
+    let last : l .other ≡ 8 = omega arith in
+    sym (taken-by (a .slot) (deviceIn (a .words .now)) (bits (a .adapters)) (bits (a .domains))
     ∙ ap (λ (n : ℕ). someBelow n f) (sym last) ∙ l .inv .1)
 
 pub taken-spec : {M : Type 1} → statement M
@@ -74,7 +74,7 @@ taken-spec =
     loop-holds
     shares-requires
     returns
-    add-j
+    add-other
     loop-less
     loop-again
     returns-2)

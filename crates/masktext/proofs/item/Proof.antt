@@ -6,6 +6,7 @@ use mathlib.Core.Path.{_≡_, sym, ap, _∙_}
 use denote.Ref.{now}
 use lib.ListN.{length, getD, take, drop}
 use Rattle.errno.specs.Outcome.{granted, refused}
+use Rattle.errno.specs.declared.Errno.the-variants.{Einval}
 use Rattle.mask.specs.Bits.{bits}
 use Rattle.number.specs.Text.{numberRule, outcome as number-outcome}
 use Rattle.number.proofs.Laws.{rule-le}
@@ -73,7 +74,7 @@ returns-3 c =
     let a = c .before .before .before .before .before .before .before .args in
     let s = now (a .s) in
     let t = take (length s - 1) (drop 1 s) in
-    let got : numberRule 255 t ≡ refused 22 = sym (c .before .before .before .parse-at-most .ensures) ∙ ap number-outcome (c .before .enum-told .given .1) in
+    let got : numberRule 255 t ≡ refused Einval = sym (c .before .before .before .parse-at-most .ensures) ∙ ap number-outcome (c .before .enum-told .given .1) in
     (c .bad2 .ensures .0 ∙ sym (item-some (bits (a .m)) s (omega arith) ∙ ap (signed (getD s 0 0) (bits (a .m))) got), c .bad2 .ensures .1)
 
 pub item-spec : {M : Type 1} → statement M

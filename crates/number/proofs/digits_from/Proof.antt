@@ -10,6 +10,7 @@ use lib.Seq.{drop-cons}
 use borrow.Author.Tests.{le-leb}
 use borrow.Author.Needs.{needs}
 use Rattle.errno.specs.Outcome.{granted, refused}
+use Rattle.errno.specs.declared.Errno.the-variants.{Einval}
 use Rattle.number.specs.Text.{outcome, atMost, digits, digitsAfter}
 use Rattle.number.proofs.Laws.{oneMore, andDigits, one-le, turn-at}
 use Rattle.number.proofs.digits_from.Statement.{statement}
@@ -51,7 +52,7 @@ unfolding outcome andDigits
 returns-2 c =
     let a = c .before .before .before .before .before .before .before .before .args in
     let l = c .before .before .before .before .before .loop in
-    let got : oneMore (a .limit) (a .base) (l .v) (getD (now (a .s)) (l .i) 0) ≡ refused 22 =
+    let got : oneMore (a .limit) (a .base) (l .v) (getD (now (a .s)) (l .i) 0) ≡ refused Einval =
     sym (c .before .before .one-more .ensures) ∙ ap outcome (c .enum-told .given .1) in
     sym (l .inv .2 ∙ turn-at (a .limit) (a .base) (l .v) (l .i) (now (a .s)) (omega arith) ∙ ap (andDigits (a .limit) (a .base) (drop (l .i + 1) (now (a .s)))) got)
 

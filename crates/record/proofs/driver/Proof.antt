@@ -35,7 +35,7 @@ returns-3 : tie.Need-returns-3
 unfolding driverOf
 returns-3 c =
     let a = c .before .before .before .before .before .args in
-    let b = getD (a .q .now) (a .a .0 * 256 + a .d .0) 0 in
+    let b = getD (a .drivers .now) (a .adapter .0 * 256 + a .domain .0) 0 in
     rw (ne-eqb b 1 (c .before .if1 .left), ne-eqb b 2 (c .if2 .left))
 
 pub driver-spec : {M : Type 1} → statement M

@@ -25,8 +25,8 @@ element-copy-out-result c = search needs
 returns : tie.Need-returns
 unfolding configIn
 returns c =
-    let a = c .before .before .args .a .0 in
-    sym (cond-below a 256 (getD (c .before .before .args .s .now) (22 + a) 0) 0 (omega arith))
+    let a = c .before .before .args .adapter .0 in
+    sym (cond-below a 256 (getD (c .before .before .args .words .now) (22 + a) 0) 0 (omega arith))
 
 pub hardware-type-spec : {M : Type 1} → statement M
 hardware-type-spec =

@@ -41,13 +41,13 @@ element-copy-out-t17 c = search needs
 returns : tie.Need-returns
 returns c =
     let a = c .before .before .before .args in
-    ap (λ (v : Device). v .id) (sym (device-there (a .s .now) (a .p) (omega arith)))
+    ap (λ (v : Device). v .id) (sym (device-there (a .words .now) (a .slot) (omega arith)))
 
 returns-2 : tie.Need-returns-2
 unfolding noDevice
 returns-2 c =
     let a = c .before .args in
-    ap (λ (v : Device). v .id) (sym (device-past (a .s .now) (a .p) (omega arith)))
+    ap (λ (v : Device). v .id) (sym (device-past (a .words .now) (a .slot) (omega arith)))
 
 pub id-spec : {M : Type 1} → statement M
 id-spec =

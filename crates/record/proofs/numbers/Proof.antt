@@ -24,17 +24,17 @@ kind-at-requires : tie.Need-kind-at-requires
 kind-at-requires c κs = search needs
 
 add-mask-at-2 : tie.Need-add-mask-at-2
-add-mask-at-2 c = omega (arith, kind-small (c .before .before .args .k))
+add-mask-at-2 c = omega (arith, kind-small (c .before .before .args .kind))
 
 mask-at-requires : tie.Need-mask-at-requires
-mask-at-requires c κs = omega (arith, kind-small (c .before .before .args .k))
+mask-at-requires c κs = omega (arith, kind-small (c .before .before .args .kind))
 
 returns : tie.Need-returns
 unfolding maskAt
 returns c =
     let a = c .before .before .before .args in
-    ap (bitAt 64) (c .mask-at .ensures) ∙ ap (λ (n : ℕ). maskAt (a .s .now) (278 + a .p * 16 + n)) (c .before .kind-at .ensures)
-    ∙ sym (numbers-there (a .s .now) (a .p) (a .k)) ∙ ap (numbersOf (a .k)) (sym (device-there (a .s .now) (a .p) (omega arith)))
+    ap (bitAt 64) (c .mask-at .ensures) ∙ ap (λ (n : ℕ). maskAt (a .words .now) (278 + a .slot * 16 + n)) (c .before .kind-at .ensures)
+    ∙ sym (numbers-there (a .words .now) (a .slot) (a .kind)) ∙ ap (numbersOf (a .kind)) (sym (device-there (a .words .now) (a .slot) (omega arith)))
 
 empty-requires : tie.Need-empty-requires
 empty-requires c κs = search needs
@@ -43,7 +43,7 @@ returns-2 : tie.Need-returns-2
 unfolding numbersOf noDevice
 returns-2 c =
     let a = c .before .before .args in
-    c .empty .ensures ∙ none (a .k) ∙ ap (numbersOf (a .k)) (sym (device-past (a .s .now) (a .p) (omega arith)))
+    c .empty .ensures ∙ none (a .kind) ∙ ap (numbersOf (a .kind)) (sym (device-past (a .words .now) (a .slot) (omega arith)))
   where
     none : (k : Kind) → noBits ≡ numbersOf k noDevice
     none Adapter = refl

@@ -27,9 +27,9 @@ returns : tie.Need-returns
 unfolding putConfig
 returns c =
     let a = c .before .before .before .before .before .before .before .before .before .before .before .before .args in
-    c .put-types .ensures ∙ ap (λ (l : List ℕ). putTypes l (λ i. cond (bits (a .c .adapters) i) (getD (a .c .types) i 0) 0) 256)
-    (c .before .before .put-mask3 .ensures ∙ ap (λ (l : List ℕ). putFour l 18 (a .c .controls .words))
-    (c .before .before .before .before .put-mask2 .ensures ∙ ap (λ (l : List ℕ). putFour l 14 (a .c .domains .words))
+    c .put-types .ensures ∙ ap (λ (l : List ℕ). putTypes l (λ i. cond (bits (a .configuration .adapters) i) (getD (a .configuration .types) i 0) 0) 256)
+    (c .before .before .put-mask3 .ensures ∙ ap (λ (l : List ℕ). putFour l 18 (a .configuration .controls .words))
+    (c .before .before .before .before .put-mask2 .ensures ∙ ap (λ (l : List ℕ). putFour l 14 (a .configuration .domains .words))
     (c .before .before .before .before .before .before .put-mask .ensures)))
 
 pub put-configuration-spec : {M : Type 1} → statement M

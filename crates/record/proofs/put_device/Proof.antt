@@ -7,7 +7,7 @@ use mathlib.Core.Bool.{Bool, cond}
 use mathlib.Core.List.{List, [], _∷_}
 use mathlib.Core.Logic.{⊎-elim}
 use borrow.Author.Needs.{needs}
-use Rattle.rules.specs.State.{places}
+use Rattle.rules.specs.State.{slots}
 use Rattle.record.specs.Layout.{putFour, zeros, putDevice}
 use Rattle.record.proofs.Laws.{cond-below, cond-past}
 use Rattle.record.proofs.put_device.Statement.{statement}
@@ -44,21 +44,21 @@ returns : tie.Need-returns
 unfolding putDevice
 returns c =
     let a = c .before .before .before .before .before .before .before .before .before .before .args in
-    let k = 278 + a .p * 16 in
+    let k = 278 + a .slot * 16 in
     c .put-mask4 .ensures ∙ ap (λ (l : List ℕ). putFour l (k + 12) zeros)
     (c .before .before .put-mask3 .ensures ∙ ap (λ (l : List ℕ). putFour l (k + 8) zeros)
     (c .before .before .before .before .put-mask2 .ensures ∙ ap (λ (l : List ℕ). putFour l (k + 4) zeros)
     (c .before .before .before .before .before .before .put-mask .ensures
-    ∙ ap (λ (x : ℕ). putFour (a .s .now) k (x ∷ 0 ∷ a .i .hi ∷ a .i .lo ∷ []))
+    ∙ ap (λ (x : ℕ). putFour (a .words .now) k (x ∷ 0 ∷ a .id .hi ∷ a .id .lo ∷ []))
     (⊎-elim (λ w. w .1 ∙ sym (ap (λ (b : Bool). cond b 1 0) (w .0 .taken))) (λ w. w .1 ∙ sym (ap (λ (b : Bool). cond b 1 0) (w .0 .left)))
     (c .before .before .before .before .before .before .before .before .if2 .came)))))
-    ∙ sym (cond-below (a .p) places _ (a .s .now) (omega arith))
+    ∙ sym (cond-below (a .slot) slots _ (a .words .now) (omega arith))
 
 returns-2 : tie.Need-returns-2
 unfolding putDevice
 returns-2 c =
     let a = c .before .args in
-    sym (cond-past (a .p) places _ (a .s .now) (omega arith))
+    sym (cond-past (a .slot) slots _ (a .words .now) (omega arith))
 
 pub put-device-spec : {M : Type 1} → statement M
 put-device-spec =

@@ -18,26 +18,26 @@ enum-told-2 c = search needs
 enum-told-3 : tie.Need-enum-told-3
 enum-told-3 c = search needs
 
-cast-q : tie.Need-cast-q
-cast-q c = search needs
+cast-drivers : tie.Need-cast-drivers
+cast-drivers c = search needs
 
-mul-q : tie.Need-mul-q
-mul-q c = search needs
+mul-drivers : tie.Need-mul-drivers
+mul-drivers c = search needs
 
-cast-q-2 : tie.Need-cast-q-2
-cast-q-2 c = search needs
+cast-drivers-2 : tie.Need-cast-drivers-2
+cast-drivers-2 c = search needs
 
-add-q : tie.Need-add-q
-add-q c = search needs
+add-drivers : tie.Need-add-drivers
+add-drivers c = search needs
 
-element-write-q : tie.Need-element-write-q
-element-write-q c = search needs
+element-write-drivers : tie.Need-element-write-drivers
+element-write-drivers c = search needs
 
 returns : tie.Need-returns
 unfolding byteOf
 returns c =
     let a = c .before .before .before .args in
-    ap (set (a .q .now) (a .a .0 * 256 + a .d .0))
+    ap (set (a .drivers .now) (a .adapter .0 * 256 + a .domain .0))
     (⊎-elim (λ w. w .2 ∙ sym (ap byteOf (w .1 .given .1)))
     (⊎-elim (λ w. w .2 ∙ sym (ap byteOf (w .1 .given .1))) (λ w. w .2 ∙ sym (ap byteOf (w .1 .given .1))))
     (c .before .before .match .came))
@@ -49,9 +49,9 @@ put-driver-spec =
     enum-told
     enum-told-2
     enum-told-3
-    cast-q
-    mul-q
-    cast-q-2
-    add-q
-    element-write-q
+    cast-drivers
+    mul-drivers
+    cast-drivers-2
+    add-drivers
+    element-write-drivers
     returns)

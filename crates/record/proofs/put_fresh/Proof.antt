@@ -12,11 +12,11 @@ use Rattle.record.proofs.put_fresh.Tie as tie
 put-nothing-requires : tie.Need-put-nothing-requires
 put-nothing-requires c κs = search needs
 
-element-write-s : tie.Need-element-write-s
-element-write-s c = search needs
+element-write-words : tie.Need-element-write-words
+element-write-words c = search needs
 
-element-write-s-2 : tie.Need-element-write-s-2
-element-write-s-2 c = search needs
+element-write-words-2 : tie.Need-element-write-words-2
+element-write-words-2 c = search needs
 
 put-mask-requires : tie.Need-put-mask-requires
 put-mask-requires c κs = search needs
@@ -35,4 +35,4 @@ returns c =
 pub put-fresh-spec : {M : Type 1} → statement M
 put-fresh-spec =
     tie.close
-    (tie.spec put-nothing-requires element-write-s element-write-s-2 put-mask-requires put-mask-requires-2 returns)
+    (tie.spec put-nothing-requires element-write-words element-write-words-2 put-mask-requires put-mask-requires-2 returns)

@@ -6,50 +6,50 @@ use Rattle.record.specs.Layout.{putFour}
 use Rattle.record.proofs.put_mask.Statement.{statement}
 use Rattle.record.proofs.put_mask.Tie as tie
 
-array-read-s : tie.Need-array-read-s
-array-read-s c = search needs
+array-read-words : tie.Need-array-read-words
+array-read-words c = search needs
 
-mul-s : tie.Need-mul-s
-mul-s c = search needs
+mul-words : tie.Need-mul-words
+mul-words c = search needs
 
-element-write-s : tie.Need-element-write-s
-element-write-s c = search needs
+element-write-words : tie.Need-element-write-words
+element-write-words c = search needs
 
-array-read-s-2 : tie.Need-array-read-s-2
-array-read-s-2 c = search needs
+array-read-words-2 : tie.Need-array-read-words-2
+array-read-words-2 c = search needs
 
-add-s : tie.Need-add-s
-add-s c = search needs
+add-words : tie.Need-add-words
+add-words c = search needs
 
-mul-s-2 : tie.Need-mul-s-2
-mul-s-2 c = search needs
+mul-words-2 : tie.Need-mul-words-2
+mul-words-2 c = search needs
 
-element-write-s-2 : tie.Need-element-write-s-2
-element-write-s-2 c = search needs
+element-write-words-2 : tie.Need-element-write-words-2
+element-write-words-2 c = search needs
 
-array-read-s-3 : tie.Need-array-read-s-3
-array-read-s-3 c = search needs
+array-read-words-3 : tie.Need-array-read-words-3
+array-read-words-3 c = search needs
 
-add-s-2 : tie.Need-add-s-2
-add-s-2 c = search needs
+add-words-2 : tie.Need-add-words-2
+add-words-2 c = search needs
 
-mul-s-3 : tie.Need-mul-s-3
-mul-s-3 c = search needs
+mul-words-3 : tie.Need-mul-words-3
+mul-words-3 c = search needs
 
-element-write-s-3 : tie.Need-element-write-s-3
-element-write-s-3 c = search needs
+element-write-words-3 : tie.Need-element-write-words-3
+element-write-words-3 c = search needs
 
-array-read-s-4 : tie.Need-array-read-s-4
-array-read-s-4 c = search needs
+array-read-words-4 : tie.Need-array-read-words-4
+array-read-words-4 c = search needs
 
-add-s-3 : tie.Need-add-s-3
-add-s-3 c = search needs
+add-words-3 : tie.Need-add-words-3
+add-words-3 c = search needs
 
-mul-s-4 : tie.Need-mul-s-4
-mul-s-4 c = search needs
+mul-words-4 : tie.Need-mul-words-4
+mul-words-4 c = search needs
 
-element-write-s-4 : tie.Need-element-write-s-4
-element-write-s-4 c = search needs
+element-write-words-4 : tie.Need-element-write-words-4
+element-write-words-4 c = search needs
 
 returns : tie.Need-returns
 unfolding putFour
@@ -59,19 +59,19 @@ pub put-mask-spec : {M : Type 1} → statement M
 put-mask-spec =
     tie.close
     (tie.spec
-    array-read-s
-    mul-s
-    element-write-s
-    array-read-s-2
-    add-s
-    mul-s-2
-    element-write-s-2
-    array-read-s-3
-    add-s-2
-    mul-s-3
-    element-write-s-3
-    array-read-s-4
-    add-s-3
-    mul-s-4
-    element-write-s-4
+    array-read-words
+    mul-words
+    element-write-words
+    array-read-words-2
+    add-words
+    mul-words-2
+    element-write-words-2
+    array-read-words-3
+    add-words-2
+    mul-words-3
+    element-write-words-3
+    array-read-words-4
+    add-words-3
+    mul-words-4
+    element-write-words-4
     returns)

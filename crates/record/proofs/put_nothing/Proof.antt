@@ -7,7 +7,7 @@ use mathlib.Core.Path.{_≡_, refl, ap, ap₂, _∙_}
 use lib.ListN.{getD, set, replicate}
 use borrow.Author.Needs.{needs}
 use Rattle.mask.specs.Bits.{Bits, bitAt}
-use Rattle.record.specs.Layout.{zeros, typesAt, putFour, putTypes, putConfig}
+use Rattle.record.specs.Layout.{wordCount, zeros, typesAt, putFour, putTypes, putConfig}
 use Rattle.record.proofs.Laws.{zero-at}
 use Rattle.record.proofs.put_nothing.Statement.{statement}
 use Rattle.record.proofs.put_nothing.Tie as tie
@@ -47,7 +47,7 @@ put-configuration-requires c κs = search needs
 
 returns : tie.Need-returns
 unfolding putConfig
-returns c = c .put-configuration .ensures ∙ nothing 406 256 256 (bitAt 64 zeros)
+returns c = c .put-configuration .ensures ∙ nothing wordCount 256 256 (bitAt 64 zeros)
 
 pub put-nothing-spec : {M : Type 1} → statement M
 put-nothing-spec = tie.close (tie.spec put-configuration-requires returns)

@@ -4,7 +4,7 @@ use Prim.Native.Nat.{ℕ, _+_, _*_}
 use native.Mathlib.Omega.{arith}
 use mathlib.Core.Path.{sym, ap, _∙_}
 use borrow.Author.Needs.{needs}
-use Rattle.rules.specs.State.{places}
+use Rattle.rules.specs.State.{slots}
 use Rattle.record.specs.Layout.{putFour, deviceAt, kindAt, putNumbers}
 use Rattle.record.proofs.Laws.{cond-below, cond-past, kind-small}
 use Rattle.record.proofs.put_numbers.Statement.{statement}
@@ -20,23 +20,23 @@ kind-at-requires : tie.Need-kind-at-requires
 kind-at-requires c κs = search needs
 
 add-put-mask-2 : tie.Need-add-put-mask-2
-add-put-mask-2 c = omega (arith, kind-small (c .before .before .before .args .k))
+add-put-mask-2 c = omega (arith, kind-small (c .before .before .before .args .kind))
 
 put-mask-requires : tie.Need-put-mask-requires
-put-mask-requires c κs = omega (arith, kind-small (c .before .before .before .args .k))
+put-mask-requires c κs = omega (arith, kind-small (c .before .before .before .args .kind))
 
 returns : tie.Need-returns
 unfolding putNumbers
 returns c =
     let a = c .before .before .before .before .args in
-    c .put-mask .ensures ∙ ap (λ (n : ℕ). putFour (a .s .now) (278 + a .p * 16 + n) (a .m .words)) (c .before .kind-at .ensures)
-    ∙ sym (cond-below (a .p) places (putFour (a .s .now) (deviceAt (a .p) + kindAt (a .k)) (a .m .words)) (a .s .now) (omega arith))
+    c .put-mask .ensures ∙ ap (λ (n : ℕ). putFour (a .words .now) (278 + a .slot * 16 + n) (a .mask .words)) (c .before .kind-at .ensures)
+    ∙ sym (cond-below (a .slot) slots (putFour (a .words .now) (deviceAt (a .slot) + kindAt (a .kind)) (a .mask .words)) (a .words .now) (omega arith))
 
 returns-2 : tie.Need-returns-2
 unfolding putNumbers
 returns-2 c =
     let a = c .before .args in
-    sym (cond-past (a .p) places (putFour (a .s .now) (deviceAt (a .p) + kindAt (a .k)) (a .m .words)) (a .s .now) (omega arith))
+    sym (cond-past (a .slot) slots (putFour (a .words .now) (deviceAt (a .slot) + kindAt (a .kind)) (a .mask .words)) (a .words .now) (omega arith))
 
 pub put-numbers-spec : {M : Type 1} → statement M
 put-numbers-spec =

@@ -7,40 +7,40 @@ use mathlib.Core.Bool.{Bool, cond}
 use mathlib.Core.Logic.{⊎-elim}
 use lib.ListN.{set}
 use borrow.Author.Needs.{needs}
-use Rattle.rules.specs.State.{places}
+use Rattle.rules.specs.State.{slots}
 use Rattle.record.specs.Layout.{deviceAt, putOpen}
 use Rattle.record.proofs.Laws.{cond-below, cond-past}
 use Rattle.record.proofs.put_open.Statement.{statement}
 use Rattle.record.proofs.put_open.Tie as tie
 
-mul-s : tie.Need-mul-s
-mul-s c = search needs
+mul-words : tie.Need-mul-words
+mul-words c = search needs
 
-add-s : tie.Need-add-s
-add-s c = search needs
+add-words : tie.Need-add-words
+add-words c = search needs
 
-add-s-2 : tie.Need-add-s-2
-add-s-2 c = search needs
+add-words-2 : tie.Need-add-words-2
+add-words-2 c = search needs
 
-mul-s-2 : tie.Need-mul-s-2
-mul-s-2 c = search needs
+mul-words-2 : tie.Need-mul-words-2
+mul-words-2 c = search needs
 
-element-write-s : tie.Need-element-write-s
-element-write-s c = search needs
+element-write-words : tie.Need-element-write-words
+element-write-words c = search needs
 
 returns : tie.Need-returns
 unfolding putOpen
 returns c =
     let a = c .before .before .args in
-    ap (set (a .s .now) (278 + a .p * 16 + 1))
+    ap (set (a .words .now) (278 + a .slot * 16 + 1))
     (⊎-elim (λ w. w .1 ∙ sym (ap (λ (b : Bool). cond b 1 0) (w .0 .taken))) (λ w. w .1 ∙ sym (ap (λ (b : Bool). cond b 1 0) (w .0 .left))) (c .if2 .came))
-    ∙ sym (cond-below (a .p) places (set (a .s .now) (deviceAt (a .p) + 1) (cond (a .opened) 1 0)) (a .s .now) (omega arith))
+    ∙ sym (cond-below (a .slot) slots (set (a .words .now) (deviceAt (a .slot) + 1) (cond (a .opened) 1 0)) (a .words .now) (omega arith))
 
 returns-2 : tie.Need-returns-2
 unfolding putOpen
 returns-2 c =
     let a = c .before .args in
-    sym (cond-past (a .p) places (set (a .s .now) (deviceAt (a .p) + 1) (cond (a .opened) 1 0)) (a .s .now) (omega arith))
+    sym (cond-past (a .slot) slots (set (a .words .now) (deviceAt (a .slot) + 1) (cond (a .opened) 1 0)) (a .words .now) (omega arith))
 
 pub put-open-spec : {M : Type 1} → statement M
-put-open-spec = tie.close (tie.spec mul-s add-s add-s-2 mul-s-2 element-write-s returns returns-2)
+put-open-spec = tie.close (tie.spec mul-words add-words add-words-2 mul-words-2 element-write-words returns returns-2)

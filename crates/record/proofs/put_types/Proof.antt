@@ -35,14 +35,14 @@ array-read-type-of c = search needs
 type-of-requires : tie.Need-type-of-requires Inv-loop μ-loop
 type-of-requires c κs = search needs
 
-add-s : tie.Need-add-s Inv-loop μ-loop
-add-s c = search needs
+add-words : tie.Need-add-words Inv-loop μ-loop
+add-words c = search needs
 
-mul-s : tie.Need-mul-s Inv-loop μ-loop
-mul-s c = search needs
+mul-words : tie.Need-mul-words Inv-loop μ-loop
+mul-words c = search needs
 
-element-write-s : tie.Need-element-write-s Inv-loop μ-loop
-element-write-s c = search needs
+element-write-words : tie.Need-element-write-words Inv-loop μ-loop
+element-write-words c = search needs
 
 add-a : tie.Need-add-a Inv-loop μ-loop
 add-a c = search needs
@@ -56,7 +56,7 @@ loop-again c =
     let h : a < 256 = omega arith in
     let r = c .before .before .before .before .args in (
       omega arith,
-      types-next (r .s .now) (c .before .before .before .loop .s) (λ i. cond (bits (r .adapters) i) (getD (r .t3) i 0) 0) a (c .type-of .result)
+      types-next (r .words .now) (c .before .before .before .loop .words) (λ i. cond (bits (r .adapters) i) (getD (r .t3) i 0) 0) a (c .type-of .result)
           (c .before .before .before .loop .inv .1)
           (c .type-of .ensures ∙ ap (λ (b : Bool). cond b (getD (r .t3) a 0) 0) (c .before .has .ensures ∙ ap (bits (r .adapters)) (mod-eq-of-lt h))),
     )
@@ -65,7 +65,7 @@ returns : tie.Need-returns Inv-loop μ-loop
 returns c =
     let r = c .before .before .args in
     let last : c .before .loop .a ≡ 256 = omega arith in
-    c .before .loop .inv .1 ∙ ap (putTypes (r .s .now) (λ i. cond (bits (r .adapters) i) (getD (r .t3) i 0) 0)) last
+    c .before .loop .inv .1 ∙ ap (putTypes (r .words .now) (λ i. cond (bits (r .adapters) i) (getD (r .t3) i 0) 0)) last
 
 pub put-types-spec : {M : Type 1} → statement M
 put-types-spec =
@@ -78,9 +78,9 @@ put-types-spec =
     has-requires
     array-read-type-of
     type-of-requires
-    add-s
-    mul-s
-    element-write-s
+    add-words
+    mul-words
+    element-write-words
     add-a
     loop-less
     loop-again

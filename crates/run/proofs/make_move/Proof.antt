@@ -13,15 +13,15 @@ hold-drivers-requires c κs = search needs
 move-queue-requires : tie.Need-move-queue-requires
 move-queue-requires c κs = search needs
 
-moved-byte-requires : tie.Need-moved-byte-requires
-moved-byte-requires c κs = search needs
+moved-number-requires : tie.Need-moved-number-requires
+moved-number-requires c κs = search needs
 
 returns : tie.Need-returns
 returns c =
     let a = c .before .before .before .before .before .args in
-    moved (a .a) (a .d) (now (a .s)) (now (a .q)) _ (c .moved-byte .result) (c .before .move-queue .result) (omega arith) (omega arith)
-    (c .before .before .before .hold-drivers .ensures .long) (c .moved-byte .ensures) (c .before .move-queue .ensures .0) (c .before .move-queue .ensures .1)
+    moved (a .adapter) (a .domain) (now (a .words)) (now (a .drivers)) _ (c .moved-number .result) (c .before .move-queue .result) (omega arith) (omega arith)
+    (c .before .before .before .hold-drivers .ensures .long) (c .moved-number .ensures) (c .before .move-queue .ensures .0) (c .before .move-queue .ensures .1)
 
 pub make-move-spec : {M : Type 1} → statement M
 make-move-spec =
-    tie.close (tie.spec hold-drivers-requires move-queue-requires moved-byte-requires returns)
+    tie.close (tie.spec hold-drivers-requires move-queue-requires moved-number-requires returns)
