@@ -2,12 +2,17 @@
 -- Assumes nothing.
 use Prim.Native.Nat.{ℕ, zero, suc, _-_, min}
 use mathlib.Core.List.{List}
+use mathlib.Core.Path.{_≡_}
 use lib.ListN.{set}
+use denote.Ref.{RefT, now}
 use Rattle.rules.specs.declared.Driver.the-variants.{Unbound, Host, Passthrough}
 use Rattle.rules.specs.declared.Moved.{Moved}
 use Rattle.rules.specs.declared.Moved.the-variants.{Idle, Released, BoundHost, BoundPassthrough}
-use Rattle.rules.specs.Queues.{moveAnswer, dueAt}
+use Rattle.rules.specs.State.{queues}
+use Rattle.rules.specs.Queues.{moveAnswer, move, dueAt, mostMoves, Remaining}
+use Rattle.rules.specs.Sweeps.{Sweep}
 use Rattle.record.specs.Layout.{stateIn, byteOf}
+use Rattle.bind.specs.declared.Swept.{Swept}
 
 -- the bytes after a move of queue n that answered m: an idle move writes nothing
 unfoldable pub bytesAfter : Moved → ℕ → List ℕ → List ℕ
@@ -30,3 +35,24 @@ unfoldable pub sweepBytes : List ℕ → ℕ → ℕ → ℕ → List ℕ → Li
 sweepBytes ws zero k b qs = qs
 sweepBytes ws (suc n) k b qs =
     sweepBytes ws n (suc k) (b - min b (dueAt (stateIn ws qs) k)) (movesBytes ws (min b (dueAt (stateIn ws qs) k)) k qs)
+
+-- a move of queue q, on the words ws and the driver bytes qs, which it leaves as rs
+pub record Moving (q : ℕ) (ws qs rs : List ℕ) (r : Moved) : Type 0 where
+  pub answer : r ≡ moveAnswer q (stateIn ws qs)
+  pub state : stateIn ws rs ≡ move q (stateIn ws qs)
+  pub drivers : rs ≡ moveBytes ws q qs
+
+-- a sweep with a budget, on the words ws and the driver bytes qs, which it leaves as rs
+pub record Sweeping (budget : ℕ) (ws qs rs : List ℕ) (r : Swept) : Type 0 where
+  pub sweep : Sweep budget (stateIn ws qs) (stateIn ws rs) (r .used) (r .more)
+  pub drivers : rs ≡ sweepBytes ws queues 0 (min budget mostMoves) qs
+
+-- the same of lent memory, at entry and at exit
+abbrev pub Moves : ℕ → RefT (List ℕ) → RefT (List ℕ) → RefT (List ℕ) → Moved → Type 0
+Moves q words drivers after r = Moving q (now words) (now drivers) (now after) r
+
+abbrev pub Sweeps : ℕ → RefT (List ℕ) → RefT (List ℕ) → RefT (List ℕ) → Swept → Type 0
+Sweeps budget words drivers after r = Sweeping budget (now words) (now drivers) (now after) r
+
+abbrev pub Remains : RefT (List ℕ) → RefT (List ℕ) → ℕ → Type 0
+Remains words drivers r = Remaining (stateIn (now words) (now drivers)) r

@@ -13,9 +13,9 @@ ghost use mathlib.Core.Bool.{cond, not, _&&_};
 ghost use lib.Dec.{eqb};
 ghost use lib.ListN.{set};
 ghost use Rattle.rules.specs.Queues.{targetOf, moveAnswer, remaining, moved, due, dueAt, movesUsed, mostMoves};
-ghost use Rattle.rules.specs.State.{queues};
+ghost use Rattle.rules.specs.State.{queues, apqn};
 ghost use Rattle.record.specs.Layout.{stateIn, hostIn, configIn, byteOf};
-ghost use Rattle.bind.specs.Moves.{moveBytes, movesBytes, sweepBytes};
+ghost use Rattle.bind.specs.Moves.{movesBytes, Moves, Sweeps, Remains};
 
 // What a sweep reports: the moves it made, and whether any remain.
 pub struct Swept {
@@ -62,8 +62,7 @@ fn reserved(words: &Words, adapter: u8, domain: u8) -> bool
 
 // Moves one queue a step towards its target. It is never refused.
 pub fn move_queue(words: &Words, drivers: &mut Drivers, adapter: Apid, domain: Apqi) -> Moved
-    ensures answer { λ r. ⌜ r ≡ moveAnswer (adapter .0 * 256 + domain .0) (stateIn (now (words .entry)) (now (drivers .entry))) ⌝ }
-    ensures drivers { λ r. ⌜ now (drivers .exit) ≡ moveBytes (now (words .entry)) (adapter .0 * 256 + domain .0) (now (drivers .entry)) ⌝ }
+    ensures { λ r. ⌜ Moves (apqn adapter domain) (words .entry) (drivers .entry) (drivers .exit) r ⌝ }
 {
     let m = moved_by(record::driver(drivers, adapter, domain), target(words, adapter, domain));
     match m {
@@ -149,7 +148,7 @@ fn need_at(words: &Words, drivers: &Drivers, queue: usize) -> Need
 
 // The moves remaining, over all queues.
 pub fn remaining(words: &Words, drivers: &Drivers) -> u32
-    ensures { λ r. ⌜ r ≡ remaining (stateIn (now (words .entry)) (now (drivers .entry))) ⌝ }
+    ensures { λ r. ⌜ Remains (words .entry) (drivers .entry) r ⌝ }
 {
     let mut sum: u32 = 0;
     let mut queue = 0usize;
@@ -162,9 +161,7 @@ pub fn remaining(words: &Words, drivers: &Drivers) -> u32
 
 // Makes as many moves as the budget allows, by ascending queue, and finishes each queue before the next.
 pub fn sweep(words: &Words, drivers: &mut Drivers, budget: u32) -> Swept
-    ensures used { λ r. ⌜ r .used ≡ movesUsed budget (stateIn (now (words .entry)) (now (drivers .entry))) ⌝ }
-    ensures more { λ r. ⌜ r .more ≡ not (eqb (remaining (stateIn (now (words .entry)) (now (drivers .exit)))) 0) ⌝ }
-    ensures drivers { λ r. ⌜ now (drivers .exit) ≡ sweepBytes (now (words .entry)) queues 0 (min budget mostMoves) (now (drivers .entry)) ⌝ }
+    ensures { λ r. ⌜ Sweeps budget (words .entry) (drivers .entry) (drivers .exit) r ⌝ }
 {
     record::hold_drivers(drivers);
     let most = if budget < 131072 { budget } else { 131072 };

@@ -57,6 +57,20 @@ impl Mask {
         (x >> (63 - (i % 64) as u32)) % 2 == 1
     }
 
+    // Whether a mask of adapters has an adapter.
+    pub fn has_adapter(self, adapter: Apid) -> bool
+        ensures { λ r. ⌜ r ≡ bits self (adapter .0) ⌝ }
+    {
+        self.has(adapter.0)
+    }
+
+    // Whether a mask of domains has a domain.
+    pub fn has_domain(self, domain: Apqi) -> bool
+        ensures { λ r. ⌜ r ≡ bits self (domain .0) ⌝ }
+    {
+        self.has(domain.0)
+    }
+
     pub fn with(self, i: u8) -> Mask
         ensures { λ r. ⌜ bits r ≡ included i (bits self) ⌝ }
     {

@@ -1,3 +1,4 @@
 pub mod Layout
 pub mod Held
+pub mod Lent
 pub mod Carried

@@ -1,3 +1,5 @@
 pub mod State
 pub mod Queues
 pub mod Commands
+pub mod Sweeps
+pub mod Refusals

@@ -1,7 +1,9 @@
 -- Where a queue belongs, moves, the moves remaining, and guest masks (01, "Where a queue belongs" and "Guest masks").
 -- Assumes nothing.
-use Prim.Native.Nat.{ℕ, zero, suc, _+_, _-_, _*_, min}
+use Prim.Native.Nat.{ℕ, zero, suc, _+_, _-_, _*_, _<_, min}
 use mathlib.Core.Bool.{Bool, true, false, cond, not, _&&_}
+use mathlib.Core.Path.{_≡_}
+use mathlib.Core.Logic.{_↔_}
 use lib.Dec.{eqb, leb}
 use Rattle.mask.specs.Bits.{Bits, someBelow, both}
 use Rattle.rules.specs.declared.Driver.{Driver}
@@ -86,6 +88,15 @@ rebound n d ds q = cond (eqb q n) d (ds q)
 -- what a move of queue q answers
 unfoldable pub moveAnswer : ℕ → State → Moved
 moveAnswer q s = moved (s .driver q) (target s q)
+
+-- no move is due: a move of each of the queues would answer idle
+unfoldable pub Settled : State → Type 0
+Settled s = (q : ℕ) → q < queues → moveAnswer q s ≡ Idle
+
+-- r is the number of moves remaining, and it is 0 exactly when no move is due
+pub record Remaining (s : State) (r : ℕ) : Type 0 where
+  pub number : r ≡ remaining s
+  pub none : (r ≡ 0) ↔ Settled s
 
 -- the state after a move of queue q
 unfoldable pub move : ℕ → State → State

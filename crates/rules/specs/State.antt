@@ -1,10 +1,12 @@
 -- What the service keeps (01, "The desk's record"), as sets of numbers and functions of numbers.
 -- A queue is named by APID x 256 + APQI, so ascending queues are by ascending APID, then APQI.
 -- Assumes nothing.
-use Prim.Native.Nat.{ℕ, _/_, _%_}
+use Prim.Native.Nat.{ℕ, _+_, _*_, _/_, _%_}
 use mathlib.Core.Bool.{Bool, true, false, cond, _&&_}
 use lib.Dec.{eqb}
 use Rattle.mask.specs.Bits.{Bits, noBits, allBits}
+use Rattle.mask.specs.declared.Apid.{Apid}
+use Rattle.mask.specs.declared.Apqi.{Apqi}
 use Rattle.rules.specs.declared.Driver.{Driver}
 use Rattle.rules.specs.declared.Driver.the-variants.{Unbound, Host, Passthrough}
 use Rattle.rules.specs.declared.Id.{Id}
@@ -62,6 +64,10 @@ apid q = q / 256
 -- the queue's APQI
 abbrev pub apqi : ℕ → ℕ
 apqi q = q % 256
+
+-- the queue of an adapter and a domain
+abbrev pub apqn : Apid → Apqi → ℕ
+apqn a d = a .0 * 256 + d .0
 
 -- whether a queue is in the product of some adapters and some domains
 unfoldable pub inProduct : Bits → Bits → Bits
