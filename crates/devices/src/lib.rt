@@ -6,13 +6,12 @@ use record::SLOTS;
 use record::Words;
 use rules::Answer;
 use rules::Id;
-ghost use mathlib.Core.Bool.{true, false};
-ghost use Rattle.rules.specs.Commands.{create, remove, openDevice, closeDevice, slotOf, freeSlot};
-ghost use Rattle.record.specs.Layout.{deviceIn, putDevice, putOpen, noId};
-ghost use Rattle.record.specs.Carried.{Carried};
+ghost use Rattle.rules.specs.Commands.{create, remove, openDevice, closeDevice};
+ghost use Rattle.record.specs.Carried.{Obeys};
+ghost use Rattle.devices.specs.Effects.{created, removed, opened, closed};
 
 pub fn create(words: &mut Words, id: Id) -> Answer
-    ensures { λ r. ⌜ Carried (create id) (putDevice (now (words .entry)) (freeSlot (deviceIn (now (words .entry)))) true id) (now (words .entry)) (now (words .exit)) r ⌝ }
+    ensures { λ r. ⌜ Obeys (create id) (created id) (words .entry) (words .exit) r ⌝ }
 {
     if lookup::find(words, id) < SLOTS {
         return Answer::Refused(Errno::Eexist);
@@ -27,7 +26,7 @@ pub fn create(words: &mut Words, id: Id) -> Answer
 }
 
 pub fn remove(words: &mut Words, id: Id) -> Answer
-    ensures { λ r. ⌜ Carried (remove id) (putDevice (now (words .entry)) (slotOf id (deviceIn (now (words .entry)))) false noId) (now (words .entry)) (now (words .exit)) r ⌝ }
+    ensures { λ r. ⌜ Obeys (remove id) (removed id) (words .entry) (words .exit) r ⌝ }
 {
     let slot = lookup::find(words, id);
     if SLOTS <= slot {
@@ -42,7 +41,7 @@ pub fn remove(words: &mut Words, id: Id) -> Answer
 }
 
 pub fn open(words: &mut Words, id: Id) -> Answer
-    ensures { λ r. ⌜ Carried (openDevice id) (putOpen (now (words .entry)) (slotOf id (deviceIn (now (words .entry)))) true) (now (words .entry)) (now (words .exit)) r ⌝ }
+    ensures { λ r. ⌜ Obeys (openDevice id) (opened id) (words .entry) (words .exit) r ⌝ }
 {
     let slot = lookup::find(words, id);
     if SLOTS <= slot {
@@ -57,7 +56,7 @@ pub fn open(words: &mut Words, id: Id) -> Answer
 }
 
 pub fn close(words: &mut Words, id: Id) -> Answer
-    ensures { λ r. ⌜ Carried (closeDevice id) (putOpen (now (words .entry)) (slotOf id (deviceIn (now (words .entry)))) false) (now (words .entry)) (now (words .exit)) r ⌝ }
+    ensures { λ r. ⌜ Obeys (closeDevice id) (closed id) (words .entry) (words .exit) r ⌝ }
 {
     let slot = lookup::find(words, id);
     if SLOTS <= slot {

@@ -19,6 +19,7 @@ use Rattle.errno.specs.Outcome.{Outcome, granted, refused}
 use Rattle.mask.specs.Bits.{Bits, bits, bitAt, digit, noBits, allBits, numbers}
 use Rattle.mask.proofs.Bit.{digit-zero, digit-ones}
 use Rattle.mask.proofs.Laws.{Words, each-bits, past-end, numbers-words, numbers-bits, numbers-of-bits, below-four}
+use Rattle.rules.specs.declared.Answer.{Answer}
 use Rattle.rules.specs.declared.Answer.the-variants.{Done, Refused}
 use Rattle.rules.specs.declared.Kind.{Kind}
 use Rattle.rules.specs.declared.Kind.the-variants.{Adapter, Domain, Control}
@@ -29,8 +30,8 @@ use Rattle.rules.specs.declared.Configuration.{Configuration}
 use Rattle.rules.specs.State.{HostMasks, Device, State, slots, queues, noDevice, fresh}
 use Rattle.rules.specs.Queues.{rebound}
 use Rattle.rules.specs.Commands.{numbersOf, withDevice, withHost, withNumbers, withOpen, newDevice, withConfig, stored, answered, errnoOf, stateAfter}
-use Rattle.record.specs.Layout.{wordCount, four, maskAt, flag, driverOf, byteOf, limitsIn, hostIn, configIn, deviceIn, stateIn, wordsOf, putFour, putNumbers, putOpen, putDevice, putTypes, putConfig, freshWords, unbind, apmaskAt, aqmaskAt, configAt, typesAt, deviceAt, kindAt, noId, zeros, ones}
-use Rattle.record.specs.Carried.{Carried, takenAway}
+use Rattle.record.specs.Layout.{wordCount, four, maskAt, flag, driverOf, byteOf, limitsIn, hostIn, configIn, deviceIn, stateIn, wordsOf, putFour, putNumbers, putOpen, putDevice, putTypes, putConfig, freshWords, unbind, takenAway, apmaskAt, aqmaskAt, configAt, typesAt, deviceAt, kindAt, noId, zeros, ones}
+use Rattle.record.specs.Carried.{Memory, memory, read, onWords, memoryAfter, Carried, CarriedWords}
 use Rattle.record.specs.Held.{Held}
 
 -- a choice by an order that is known
@@ -745,35 +746,47 @@ read-fresh a d ha hd = fresh-over (replicate wordCount 0) (replicate 65536 0) a 
 
 -- ---- a command
 
-number-some : (e : Errno) → eqb (numberOf e) 0 ≡ false
-unfolding numberOf
-number-some Enoent = refl
-number-some Ebusy = refl
-number-some Eexist = refl
-number-some Enodev = refl
-number-some Einval = refl
-number-some Enospc = refl
-number-some Eaddrinuse = refl
-number-some Eaddrnotavail = refl
-
-pub refused-carried : (rule : State → Outcome State) (effect ws : List ℕ) (e : Errno) → ((qs : List ℕ) → rule (stateIn ws qs) ≡ refused e)
-    → Carried rule effect ws ws (Refused e)
-unfolding answered errnoOf stateAfter
-refused-carried rule effect ws e h =
+-- a refusal leaves every byte
+pub carried-refused : (rule : State → Outcome State) (effect : Memory → Memory) (m : Memory) (e : Errno) → rule (read m) ≡ refused e
+    → Carried rule effect m m (Refused e)
+unfolding answered errnoOf stateAfter memoryAfter
+carried-refused rule effect m e h =
     record {
-      answer = λ qs. sym (ap errnoOf (h qs));
-      state = λ qs. sym (ap (stateAfter (stateIn ws qs)) (h qs));
-      words = ap (λ (b : Bool). cond b effect ws) (sym (number-some e));
+      answer = sym (ap errnoOf h);
+      state = sym (ap (stateAfter (read m)) h);
+      bytes = sym (ap (λ (o : Outcome State). memoryAfter m o (effect m)) h);
     }
 
-pub granted-carried : (rule : State → Outcome State) (effect ws : List ℕ) (t : List ℕ → State) → ((qs : List ℕ) → rule (stateIn ws qs) ≡ granted (t qs))
-    → ((qs : List ℕ) → stateIn effect qs ≡ t qs) → Carried rule effect ws effect Done
-unfolding answered errnoOf stateAfter
-granted-carried rule effect ws t h e =
+-- an accepted call leaves its effect
+pub carried-granted : (rule : State → Outcome State) (effect : Memory → Memory) (m n : Memory) (t : State) → n ≡ effect m → rule (read m) ≡ granted t
+    → read (effect m) ≡ t → Carried rule effect m n Done
+unfolding answered errnoOf stateAfter memoryAfter
+carried-granted rule effect m n t e h k =
     record {
-      answer = λ qs. sym (ap errnoOf (h qs));
-      state = λ qs. e qs ∙ sym (ap (stateAfter (stateIn ws qs)) (h qs));
-      words = refl;
+      answer = sym (ap errnoOf h);
+      state = ap read e ∙ k ∙ sym (ap (stateAfter (read m)) h);
+      bytes = e ∙ sym (ap (λ (o : Outcome State). memoryAfter m o (effect m)) h);
+    }
+
+-- the same of a command that is lent the words alone
+pub refused-carried : (rule : State → Outcome State) (effect : List ℕ → List ℕ) (ws : List ℕ) (e : Errno)
+    → ((qs : List ℕ) → rule (stateIn ws qs) ≡ refused e) → CarriedWords rule effect ws ws (Refused e)
+refused-carried rule effect ws e h = λ qs. carried-refused rule (onWords effect) (memory ws qs) e (h qs)
+
+pub done-carried : (rule : State → Outcome State) (effect : List ℕ → List ℕ) (ws : List ℕ) {vs : List ℕ} (t : List ℕ → State) → vs ≡ effect ws
+    → ((qs : List ℕ) → rule (stateIn ws qs) ≡ granted (t qs)) → ((qs : List ℕ) → stateIn (effect ws) qs ≡ t qs) → CarriedWords rule effect ws vs Done
+done-carried rule effect ws {vs} t e h k =
+    λ qs. carried-granted rule (onWords effect) (memory ws qs) (memory vs qs) (t qs) (ap (λ (l : List ℕ). memory l qs) e) (h qs) (k qs)
+
+-- a rule that comes to the same as another
+pub carried-as : (rule rule′ : State → Outcome State) (effect effect′ : List ℕ → List ℕ) (ws : List ℕ) {vs : List ℕ} {r : Answer}
+    → ((qs : List ℕ) → rule′ (stateIn ws qs) ≡ rule (stateIn ws qs)) → effect′ ws ≡ effect ws → CarriedWords rule effect ws vs r
+    → CarriedWords rule′ effect′ ws vs r
+carried-as rule rule′ effect effect′ ws {vs} {r} h e c =
+    λ qs. record {
+      answer = c qs .answer ∙ ap errnoOf (sym (h qs));
+      state = c qs .state ∙ ap (stateAfter (stateIn ws qs)) (sym (h qs));
+      bytes = c qs .bytes ∙ ap₂ (λ (o : Outcome State) (l : List ℕ). memoryAfter (memory ws qs) o (memory l qs)) (sym (h qs)) (sym e);
     }
 
 -- ---- what a reference to the record tells

@@ -1,34 +1,55 @@
--- What a command does to the record: contracts of the commands cite this one record.
+-- What a call does to the lent memory: the contracts of all functions that can refuse cite this one record.
 -- Assumes nothing.
 use Prim.Native.Nat.{ℕ}
-use mathlib.Core.Bool.{cond, not, _&&_}
 use mathlib.Core.List.{List}
 use mathlib.Core.Path.{_≡_}
-use lib.Dec.{eqb}
-use Rattle.errno.specs.Outcome.{Outcome}
-use Rattle.mask.specs.Bits.{Bits}
+use denote.Ref.{now}
+use Rattle.errno.specs.Outcome.{Outcome, granted, refused}
 use Rattle.rules.specs.declared.Answer.{Answer}
-use Rattle.rules.specs.State.{State, queues}
-use Rattle.rules.specs.Commands.{answered, errnoOf, stateAfter, stored, configure}
-use Rattle.rules.specs.declared.Configuration.{Configuration}
-use Rattle.rules.specs.Queues.{configured}
-use Rattle.record.specs.Layout.{stateIn, configIn, putConfig, unbind}
+use Rattle.rules.specs.State.{State}
+use Rattle.rules.specs.Commands.{answered, errnoOf, stateAfter}
+use Rattle.record.specs.Layout.{stateIn}
+use Rattle.record.specs.Lent.{Lent}
 
--- A command that follows a rule, on the words `before` and whatever drivers there are.
--- It answers as the rule does. The record, read by the rules, is then as the rule says.
--- An accepted command leaves the words `effect`, and a refused one leaves the words as they were.
-pub record Carried (rule : State → Outcome State) (effect before after : List ℕ) (r : Answer) : Type 0 where
-  pub answer : (qs : List ℕ) → answered r ≡ errnoOf (rule (stateIn before qs))
-  pub state : (qs : List ℕ) → stateIn after qs ≡ stateAfter (stateIn before qs) (rule (stateIn before qs))
-  pub words : after ≡ cond (eqb (answered r) 0) effect before
+-- the memory of a record: its words and its driver bytes
+pub record Memory : Type 0 where
+  pub words : List ℕ
+  pub drivers : List ℕ
 
--- the queues that a configuration takes away from the one that the words hold
-unfoldable pub takenAway : List ℕ → Configuration → Bits
-takenAway ws c q = configured (configIn ws) q && not (configured (stored c) q)
+abbrev pub memory : List ℕ → List ℕ → Memory
+memory ws qs = record { words = ws; drivers = qs }
 
--- Set configuration, on the words `before` and the driver bytes `qs`, which it leaves as `after` and `rs`.
-pub record Configured (c : Configuration) (before after qs rs : List ℕ) (r : Answer) : Type 0 where
-  pub answer : answered r ≡ errnoOf (configure c (stateIn before qs))
-  pub state : stateIn after rs ≡ stateAfter (stateIn before qs) (configure c (stateIn before qs))
-  pub words : after ≡ cond (eqb (answered r) 0) (putConfig before c) before
-  pub drivers : rs ≡ cond (eqb (answered r) 0) (unbind qs (takenAway before c) queues) qs
+-- the state that memory holds
+abbrev pub read : Memory → State
+read m = stateIn (m .words) (m .drivers)
+
+-- a change of the words alone
+abbrev pub onWords : (List ℕ → List ℕ) → Memory → Memory
+onWords f m = memory (f (m .words)) (m .drivers)
+
+-- the memory after a call, by its outcome: a refusal leaves every byte
+unfoldable pub memoryAfter : Memory → Outcome State → Memory → Memory
+memoryAfter m (granted s) n = n
+memoryAfter m (refused e) n = m
+
+-- A call that follows a rule, on the memory m, which it leaves as n.
+pub record Carried (rule : State → Outcome State) (effect : Memory → Memory) (m n : Memory) (r : Answer) : Type 0 where
+  -- it answers as the rule does
+  pub answer : answered r ≡ errnoOf (rule (read m))
+  -- the memory, read by the rules, is then as the rule says
+  pub state : read n ≡ stateAfter (read m) (rule (read m))
+  -- and these are its bytes
+  pub bytes : n ≡ memoryAfter m (rule (read m)) (effect m)
+
+-- a call that is lent the words alone, whatever the driver bytes are
+abbrev pub CarriedWords : (State → Outcome State) → (List ℕ → List ℕ) → List ℕ → List ℕ → Answer → Type 0
+CarriedWords rule effect ws vs r = (qs : List ℕ) → Carried rule (onWords effect) (memory ws qs) (memory vs qs) r
+
+-- the same of lent memory at entry and at exit: a function that is lent the words
+abbrev pub Obeys : (State → Outcome State) → (List ℕ → List ℕ) → Lent → Lent → Answer → Type 0
+Obeys rule effect entry exit r = CarriedWords rule effect (now entry) (now exit) r
+
+-- a function that is lent the words and the drivers
+abbrev pub ObeysBoth : (State → Outcome State) → (Memory → Memory) → Lent → Lent → Lent → Lent → Answer → Type 0
+ObeysBoth rule effect words words′ drivers drivers′ r =
+    Carried rule effect (memory (now words) (now drivers)) (memory (now words′) (now drivers′)) r

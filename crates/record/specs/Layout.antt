@@ -13,6 +13,8 @@ use Rattle.rules.specs.declared.Kind.{Kind}
 use Rattle.rules.specs.declared.Kind.the-variants.{Adapter, Domain, Control}
 use Rattle.rules.specs.declared.Id.{Id}
 use Rattle.rules.specs.declared.Configuration.{Configuration}
+use Rattle.rules.specs.Queues.{configured}
+use Rattle.rules.specs.Commands.{stored}
 use Rattle.rules.specs.State.{Limits, HostMasks, Config, Device, State, slots, noDevice}
 
 -- where the parts lie: word 0 and 1 are the limits, and each mask has four words
@@ -161,3 +163,7 @@ freshWords a d =
 unfoldable pub unbind : List ℕ → Bits → ℕ → List ℕ
 unbind qs gone zero = qs
 unbind qs gone (suc n) = cond (gone n) (set (unbind qs gone n) n 0) (unbind qs gone n)
+
+-- the queues that a configuration takes away from the one that the words hold
+unfoldable pub takenAway : List ℕ → Configuration → Bits
+takenAway ws c q = configured (configIn ws) q && not (configured (stored c) q)

@@ -6,11 +6,10 @@ use mathlib.Core.Bool.{true}
 use mathlib.Core.Path.{refl, sym, ap, _∙_}
 use borrow.Author.Needs.{needs}
 use Rattle.errno.specs.declared.Errno.the-variants.{Eexist, Enospc}
-use Rattle.errno.specs.Errno.{numberOf}
 use Rattle.rules.specs.Commands.{freeSlot, create, withDevice, newDevice}
 use Rattle.record.specs.Layout.{deviceIn, stateIn, putDevice}
-use Rattle.record.proofs.Laws.{refused-carried, read-new}
-use Rattle.lookup.proofs.Found.{done-carried}
+use Rattle.record.proofs.Laws.{refused-carried, done-carried, read-new}
+use Rattle.devices.specs.Effects.{created}
 use Rattle.devices.proofs.Laws.{create-known, create-full, create-new}
 use Rattle.devices.proofs.create.Statement.{statement}
 use Rattle.devices.proofs.create.Tie as tie
@@ -19,21 +18,19 @@ find-requires : tie.Need-find-requires
 find-requires c κs = search needs
 
 returns : tie.Need-returns
-unfolding numberOf
 returns c =
     let a = c .before .before .before .args in
-    refused-carried (create (a .id)) _ (a .words .now) Eexist
+    refused-carried (create (a .id)) (created (a .id)) (a .words .now) Eexist
     (λ qs. create-known (a .id) (a .words .now) qs (c .before .find .result) _ (c .before .find .ensures) refl (c .if1 .taken))
 
 free-requires : tie.Need-free-requires
 free-requires c κs = search needs
 
 returns-2 : tie.Need-returns-2
-unfolding numberOf
 returns-2 c =
     let a = c .before .before .before .before .before .before .args in
     let f = c .before .before .before .before .find in
-    refused-carried (create (a .id)) _ (a .words .now) Enospc
+    refused-carried (create (a .id)) (created (a .id)) (a .words .now) Enospc
     (λ qs. create-full (a .id) (a .words .now) qs (f .result) (c .before .free .result) (f .ensures) (c .before .free .ensures)
     (c .before .before .before .if1 .left) (c .if2 .taken))
 
@@ -50,7 +47,7 @@ returns-3 c =
     let f = c .before .before .before .before .before .before .before .before .find in
     let e = c .before .before .before .before .before .free in
     let slot : ℕ → List ℕ = λ p. putDevice ws p true (a .id) in
-    done-carried {effect = slot (freeSlot (deviceIn ws))} (λ qs. withDevice (e .result) (newDevice (a .id)) (stateIn ws qs))
+    done-carried (create (a .id)) (created (a .id)) ws (λ qs. withDevice (e .result) (newDevice (a .id)) (stateIn ws qs))
     (c .put-device .ensures ∙ ap slot (e .ensures))
     (λ qs. create-new (a .id) ws qs (f .result) (e .result) (f .ensures) (e .ensures)
     (c .before .before .before .before .before .before .before .if1 .left) (c .before .before .before .before .if2 .left))
