@@ -64,7 +64,10 @@ fn reserved(words: &Words, adapter: u8, domain: u8) -> bool
 pub fn move_queue(words: &Words, drivers: &mut Drivers, adapter: Apid, domain: Apqi) -> Moved
     ensures { λ r. ⌜ Moves (apqn adapter domain) (words .entry) (drivers .entry) (drivers .exit) r ⌝ }
 {
-    let m = moved_by(record::driver(drivers, adapter, domain), target(words, adapter, domain));
+    let m = moved_by(
+        record::driver(drivers, adapter, domain),
+        target(words, adapter, domain),
+    );
     match m {
         Moved::Idle => {}
         Moved::Released => {

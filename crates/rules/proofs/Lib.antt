@@ -2,4 +2,5 @@ pub mod Products
 pub mod First
 pub mod Sums
 pub mod Moves
+pub mod Sweeps
 pub mod Refusals

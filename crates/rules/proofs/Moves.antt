@@ -1,20 +1,18 @@
--- Moves and sweeps lower the moves remaining by just the moves that are not idle.
+-- Moves lower the moves remaining by just those that are not idle, and where none remains no move is due.
 -- Assumes nothing.
-use Prim.Native.Nat.{ℕ, zero, suc, _+_, _-_, _≤_, _<_, min}
-use native.Mathlib.Nat.{add-zero, zero-add, add-suc, suc-add, le-refl}
-use native.Mathlib.Numerals.{add-one}
+use Prim.Native.Nat.{ℕ, zero, suc, _+_, _≤_, _<_, min}
+use native.Mathlib.Nat.{add-zero}
 use native.Mathlib.Omega.{arith}
-use mathlib.Core.Bool.{Bool, true, false, cond}
-use mathlib.Core.Path.{_≡_, refl, sym, ap, ap₂, subst, _∙_}
-use lib.Dec.{eqb}
+use mathlib.Core.Bool.{Bool, cond}
+use mathlib.Core.Path.{_≡_, refl, ap, _∙_}
 use borrow.Author.Tests.{eq-eqb, ne-eqb}
 use Rattle.rules.specs.declared.Driver.{Driver}
 use Rattle.rules.specs.declared.Driver.the-variants.{Unbound, Host, Passthrough}
 use Rattle.rules.specs.declared.Moved.{Moved}
 use Rattle.rules.specs.declared.Moved.the-variants.{Idle, Released, BoundHost, BoundPassthrough}
 use Rattle.rules.specs.State.{State, queues}
-use Rattle.rules.specs.Queues.{target, moved, after, due, dueAt, sumBelow, remaining, rebound, moveAnswer, move, moves, sweepFrom, sweep, mostMoves, movesUsed}
-use Rattle.rules.proofs.Sums.{sum-cong, sum-change, sum-more}
+use Rattle.rules.specs.Queues.{target, moved, after, due, dueAt, sumBelow, remaining, rebound, moveAnswer, move, moves, Settled, Remaining}
+use Rattle.rules.proofs.Sums.{sum-change, sum-zero, zero-sum}
 
 -- the moves that an answer stands for: an idle move is none
 unfoldable pub spent : Moved → ℕ
@@ -86,6 +84,45 @@ pub spent-at : (q : ℕ) (s : State) → spent (moveAnswer q s) ≡ min 1 (dueAt
 unfolding dueAt moveAnswer
 spent-at q s = spent-due (s .driver q) (target s q)
 
+-- an answer is idle exactly where it stands for no move
+pub idle-spent : (m : Moved) → m ≡ Idle → spent m ≡ 0
+unfolding spent
+idle-spent m e = ap spent e
+
+pub busy-spent : (m : Moved) → (m ≡ Idle → ⊥) → spent m ≡ 1
+unfolding spent
+busy-spent Idle h = absurd (h refl)
+busy-spent Released h = refl
+busy-spent BoundHost h = refl
+busy-spent BoundPassthrough h = refl
+
+spent-idle : (m : Moved) → spent m ≡ 0 → m ≡ Idle
+unfolding spent
+spent-idle Idle e = refl
+spent-idle Released e = absurd (omega arith)
+spent-idle BoundHost e = absurd (omega arith)
+spent-idle BoundPassthrough e = absurd (omega arith)
+
+-- a queue needs at most two moves, and none exactly where its move is idle
+pub due-two : (s : State) (q : ℕ) → dueAt s q ≤ 2
+unfolding dueAt
+due-two s q = due-le (s .driver q) (target s q)
+
+pub due-idle : (q : ℕ) (s : State) → dueAt s q ≡ 0 → moveAnswer q s ≡ Idle
+due-idle q s e = spent-idle (moveAnswer q s) (omega (arith, spent-at q s))
+
+pub idle-due : (q : ℕ) (s : State) → moveAnswer q s ≡ Idle → dueAt s q ≡ 0
+idle-due q s e = omega (arith, spent-at q s, idle-spent (moveAnswer q s) e)
+
+-- no move remains exactly where none is due
+pub remaining-none : (s : State) → Remaining s (remaining s)
+unfolding remaining Settled
+remaining-none s =
+    record {
+      number = refl;
+      none = (λ e q h. due-idle q s (sum-zero queues (dueAt s) e q h), λ f. zero-sum queues (dueAt s) (λ q h. idle-due q s (f q h)));
+    }
+
 -- a due move lowers the moves remaining by exactly one, and an idle one leaves them
 pub remaining-move : (q : ℕ) (s : State) → q < queues → remaining (move q s) + spent (moveAnswer q s) ≡ remaining s
 unfolding remaining
@@ -108,49 +145,3 @@ remaining-moves (suc m) q s h l =
     let one : spent (moveAnswer q s) ≡ 1 = omega (arith, spent-at q s) in
     let left : m ≤ dueAt (move q s) q = omega (arith, due-here q s) in
     omega (arith, remaining-moves m q (move q s) h left, remaining-move q s h)
-
--- the sum of the n terms from k on
-unfoldable pub sumFrom : ℕ → ℕ → (ℕ → ℕ) → ℕ
-sumFrom zero k f = 0
-sumFrom (suc n) k f = f k + sumFrom n (suc k) f
-
-pub sum-from-cong : (n k : ℕ) (f g : ℕ → ℕ) → ((j : ℕ) → k ≤ j → f j ≡ g j) → sumFrom n k f ≡ sumFrom n k g
-unfolding sumFrom
-sum-from-cong zero k f g e = refl
-sum-from-cong (suc n) k f g e = ap₂ (λ (a b : ℕ). a + b) (e k (le-refl k)) (sum-from-cong n (suc k) f g (λ j h. e j (omega arith)))
-
-pub sum-split : (n k : ℕ) (f : ℕ → ℕ) → sumBelow k f + sumFrom n k f ≡ sumBelow (k + n) f
-unfolding sumFrom sumBelow
-sum-split zero k f = rw (add-zero k) (add-zero (sumBelow k f))
-sum-split (suc n) k f =
-    let i : sumBelow (suc k) f + sumFrom n (suc k) f ≡ sumBelow (suc k + n) f = sum-split n (suc k) f in
-    let e : suc k + n ≡ k + suc n = omega arith in
-    subst (λ (m : ℕ). sumBelow k f + (f k + sumFrom n (suc k) f) ≡ sumBelow m f) e (omega arith)
-
--- a sweep lowers the moves remaining by the smaller of its budget and what its queues need
-pub remaining-sweep : (n k b : ℕ) (s : State) → k + n ≤ queues → remaining (sweepFrom n k b s) + min b (sumFrom n k (dueAt s)) ≡ remaining s
-unfolding sweepFrom sumFrom
-remaining-sweep zero k b s h = omega arith
-remaining-sweep (suc n) k b s h =
-    let m = min b (dueAt s k) in
-    let t = moves m k s in
-    let here : remaining t + m ≡ remaining s = remaining-moves m k s (omega arith) (omega arith) in
-    let rest : sumFrom n (suc k) (dueAt t) ≡ sumFrom n (suc k) (dueAt s) =
-    sum-from-cong n (suc k) (dueAt t) (dueAt s) (λ j l. moves-other m k j s (λ e. omega arith))
-    in
-    omega (arith, here, rest, remaining-sweep n (suc k) (b - m) t (omega arith))
-
-pub sum-all : (n : ℕ) (f : ℕ → ℕ) → sumFrom n 0 f ≡ sumBelow n f
-unfolding sumBelow
-sum-all n f = sym (zero-add (sumFrom n 0 f)) ∙ sum-split n 0 f ∙ ap (λ (m : ℕ). sumBelow m f) (zero-add n)
-
--- the moves remaining are what all queues need
-pub all-due : (s : State) → sumFrom queues 0 (dueAt s) ≡ remaining s
-unfolding remaining
-all-due s = sum-all queues (dueAt s)
-
-pub remaining-swept : (b : ℕ) (s : State) → remaining (sweep b s) + movesUsed b s ≡ remaining s
-unfolding sweep movesUsed
-remaining-swept b s =
-    subst (λ (m : ℕ). remaining (sweepFrom queues 0 (min b mostMoves) s) + min (min b mostMoves) m ≡ remaining s) (all-due s)
-    (remaining-sweep queues 0 (min b mostMoves) s (omega arith))

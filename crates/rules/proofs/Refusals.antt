@@ -15,12 +15,14 @@ use Rattle.errno.specs.declared.Errno.the-variants.{Enoent, Enodev, Eaddrinuse,
 use Rattle.mask.specs.Bits.{Bits, someBelow, both, noBits, included}
 use Rattle.mask.proofs.Laws.{some-elim, some-intro, some-none}
 use Rattle.number.specs.Text.{numberText}
+use Rattle.rules.specs.declared.Answer.{Answer}
 use Rattle.rules.specs.declared.Id.{Id}
 use Rattle.rules.specs.declared.Kind.{Kind}
 use Rattle.rules.specs.declared.Kind.the-variants.{Adapter, Domain, Control}
 use Rattle.rules.specs.State.{Device, Devices, State, slots, queues, inProduct}
 use Rattle.rules.specs.Queues.{reserved}
-use Rattle.rules.specs.Commands.{errnoOf, slotOf, product, assignedElsewhere, reading, onDevice, numbersOf, withNumbers, limitOf, single, paired, adds, adding, assignAt, assign, withDevice, sameId, firstFrom}
+use Rattle.rules.specs.Commands.{answered, errnoOf, slotOf, product, assignedElsewhere, reading, onDevice, numbersOf, withNumbers, limitOf, single, paired, adds, adding, assignAt, assign, withDevice, sameId, firstFrom}
+use Rattle.rules.specs.Refusals.{Clash, RefusedExactly}
 use Rattle.rules.proofs.First.{first-holds}
 use Rattle.rules.proofs.Products.{both-left, both-right, in-both}
 
@@ -59,7 +61,7 @@ adds-paired Domain n v e h q =
 adds-paired Control n v e h q = and-not-self (v .present && (v .adapters (q / 256) && v .domains (q % 256)))
 
 -- a number that is assigned adds nothing
-absorbed : (n : ℕ) (m : Bits) → m n ≡ true → included n m ≡ m
+pub absorbed : (n : ℕ) (m : Bits) → m n ≡ true → included n m ≡ m
 unfolding included
 absorbed n m h = fun-ext (λ i. go i (eqb i n) refl)
   where
@@ -67,7 +69,7 @@ absorbed n m h = fun-ext (λ i. go i (eqb i n) refl)
     go i true e = sym (ap m (eqb-true i n e) ∙ h)
     go i false e = refl
 
-same-numbers : (k : Kind) (v : Device) → withNumbers k (numbersOf k v) v ≡ v
+pub same-numbers : (k : Kind) (v : Device) → withNumbers k (numbersOf k v) v ≡ v
 unfolding withNumbers numbersOf
 same-numbers Adapter v = refl
 same-numbers Domain v = refl
@@ -82,11 +84,6 @@ adds-none k n v h q =
 
 -- ---- the sentence
 
--- a pair that would be added, and that the host or another device has
-unfoldable pub Clash : Kind → ℕ → ℕ → State → Type 0
-Clash k n p s =
-    (q : ℕ) × (q < queues) × (adds k n (s .device p) q ≡ true) × ((reserved (s .host) q ≡ true) ⊎ (assignedElsewhere p (s .device) q ≡ true))
-
 module _ (k : Kind) (n p : ℕ) (s : State) (e : s .device p .present ≡ true) where
   new : Bits
   new = paired k n (s .device p)
@@ -97,7 +94,7 @@ module _ (k : Kind) (n p : ℕ) (s : State) (e : s .device p .present ≡ true) 
   -- on what the tests of `adding` find
   clashes : numbersOf k (s .device p) n ≡ false → (x y : Bool) → someBelow queues (both new (reserved (s .host))) ≡ x
       → someBelow queues (both new (assignedElsewhere p (s .device))) ≡ y
-      → ((errnoOf (cond x (refused Eaddrnotavail) (cond y (refused Eaddrinuse) (granted added))) ≡ 0 → ⊥) ↔ Clash k n p s)
+      → ((errnoOf (cond x (refused Eaddrnotavail) (cond y (refused Eaddrinuse) (granted added))) ≡ 0 → ⊥) ↔ Clash k n p (s .host) (s .device))
   unfolding errnoOf numberOf Clash new
   clashes h true y hx hy = (
     λ f. let g = some-elim queues (both new (reserved (s .host))) hx in (
@@ -132,21 +129,17 @@ module _ (k : Kind) (n p : ℕ) (s : State) (e : s .device p .present ≡ true) 
           ∙ some-none queues (both new (assignedElsewhere p (s .device))) hy (c .0) (c .1))
 
   at-slot : (b : Bool) → numbersOf k (s .device p) n ≡ b
-      → ((errnoOf (cond b (granted s) (adding new p s added)) ≡ 0 → ⊥) ↔ Clash k n p s)
+      → ((errnoOf (cond b (granted s) (adding new p s added)) ≡ 0 → ⊥) ↔ Clash k n p (s .host) (s .device))
   unfolding errnoOf Clash adding
   at-slot true h = (λ f. absurd (f refl), λ c z. true≢false (sym (c .2) ∙ adds-none k n (s .device p) h (c .0)))
   at-slot false h =
       clashes h (someBelow queues (both new (reserved (s .host)))) (someBelow queues (both new (assignedElsewhere p (s .device)))) refl refl
 
 -- an assignment to a known device, in range
-pub refused-exactly : (k : Kind) (i : Id) (text : List ℕ) (s : State) (n : ℕ) → numberText text ≡ granted n → slotOf i (s .device) < slots
-    → n ≤ limitOf k (s .limits) → ((errnoOf (assign k i text s) ≡ 0 → ⊥) ↔ Clash k n (slotOf i (s .device)) s)
-unfolding assign reading onDevice assignAt new added
-refused-exactly k i text s n t h l =
+pub refused-exactly : (k : Kind) (i : Id) (text : List ℕ) (s : State) (r : Answer) → answered r ≡ errnoOf (assign k i text s)
+    → RefusedExactly k i text (s .limits) (s .host) (s .device) r
+unfolding RefusedExactly assign reading onDevice assignAt new added
+refused-exactly k i text s r e n t h l =
     let p = slotOf i (s .device) in
-    subst (λ (o : Outcome ℕ). (errnoOf (reading o (λ m. cond (ltb p slots) (cond (leb m (limitOf k (s .limits))) (assignAt k m p s) (refused Enodev)) (refused Enoent))) ≡ 0 → ⊥) ↔ Clash k n p s)
-    (sym t)
-    (subst (λ (b : Bool). (errnoOf (cond b (cond (leb n (limitOf k (s .limits))) (assignAt k n p s) (refused Enodev)) (refused Enoent)) ≡ 0 → ⊥) ↔ Clash k n p s)
-    (sym (lt-ltb p slots h))
-    (subst (λ (b : Bool). (errnoOf (cond b (assignAt k n p s) (refused Enodev)) ≡ 0 → ⊥) ↔ Clash k n p s) (sym (le-leb n (limitOf k (s .limits)) l))
-    (at-slot k n p s (slot-present i (s .device) h) (numbersOf k (s .device p) n) refl)))
+    rw (e, t, lt-ltb p slots h, le-leb n (limitOf k (s .limits)) l)
+    (at-slot k n p s (slot-present i (s .device) h) (numbersOf k (s .device p) n) refl)
