@@ -12,8 +12,8 @@ use Rattle.errno.specs.Outcome.{Outcome, granted, refused}
 use Rattle.errno.specs.Errno.{numberOf}
 use Rattle.errno.specs.declared.Errno.the-variants.{Enodev, Einval, Eaddrinuse, Eaddrnotavail}
 use Rattle.mask.specs.declared.Mask.{Mask}
-use Rattle.mask.specs.Bits.{Bits, bits, someBelow, both, included, noBits}
-use Rattle.mask.proofs.Laws.{Words}
+use Rattle.mask.specs.Bits.{Sized, Bits, bits, someBelow, both, included, noBits}
+
 use Rattle.number.specs.Text.{numberText}
 use Rattle.rules.specs.declared.Answer.{Answer}
 use Rattle.rules.specs.declared.Answer.the-variants.{Refused}
@@ -24,7 +24,6 @@ use Rattle.rules.specs.State.{State, slots, queues, inProduct}
 use Rattle.rules.specs.Queues.{reserved}
 use Rattle.rules.specs.Commands.{numbersOf, withNumbers, withDevice, single, onDevice, slotOf, limitOf, reading, assignAt, adding, paired, assignedElsewhere}
 use Rattle.record.specs.Carried.{Carried}
-use Rattle.record.specs.Held.{Held}
 use Rattle.record.specs.Layout.{wordCount, four, maskAt, deviceIn, limitsIn, hostIn, stateIn, wordsOf, putFour, putNumbers, deviceAt, kindAt}
 use Rattle.record.proofs.Laws.{cond-below, device-there, numbers-there, words-of, put-same, read-numbers, refused-carried}
 use Rattle.lookup.proofs.Found.{known}
@@ -45,7 +44,7 @@ absorbed n m h = fun-ext (λ i. go i (eqb i n) refl)
     go i false e = refl
 
 -- four of the record's words
-four-words : {ws : List ℕ} → Held 64 wordCount ws → (k : ℕ) → Words 64 4 (four ws k)
+four-words : {ws : List ℕ} → Sized 64 wordCount ws → (k : ℕ) → Sized 64 4 (four ws k)
 four-words {ws} h k = record { long = refl; small = go }
   where
     go : (q : ℕ) → getD (four ws k) q 0 < 2 ^ 64
@@ -55,7 +54,7 @@ four-words {ws} h k = record { long = refl; small = go }
     go (suc (suc (suc zero))) = h .small (k + 3)
     go (suc (suc (suc (suc q)))) = omega arith
 
-module _ (ws : List ℕ) (k : Kind) (p : ℕ) (held : Held 64 wordCount ws) (there : p < slots) where
+module _ (ws : List ℕ) (k : Kind) (p : ℕ) (held : Sized 64 wordCount ws) (there : p < slots) where
   -- an assigned number leaves the words as they are
   pub same-words : (n : ℕ) → numbersOf k (deviceIn ws p) n ≡ true → ws ≡ changed ws k p (included n)
   unfolding changed putNumbers maskAt
@@ -65,7 +64,7 @@ module _ (ws : List ℕ) (k : Kind) (p : ℕ) (held : Held 64 wordCount ws) (the
       (absorbed n (numbersOf k (deviceIn ws p)) e ∙ ap (numbersOf k) (device-there ws p there) ∙ numbers-there ws p k)
       ∙ ap (putNumbers ws p k) (words-of (four-words held at)) ∙ cond-below p slots (putFour ws at (four ws at)) ws there ∙ put-same ws at)
 
-  module _ (f : Bits → Bits) (m : Mask) (words : Words 64 4 (m .words)) (made : bits m ≡ f (numbersOf k (deviceIn ws p))) where
+  module _ (f : Bits → Bits) (m : Mask) (words : Sized 64 4 (m .words)) (made : bits m ≡ f (numbersOf k (deviceIn ws p))) where
     -- the words once a changed mask is put
     pub put-changed : putNumbers ws p k (m .words) ≡ changed ws k p f
     unfolding changed

@@ -19,9 +19,9 @@ ghost use Rattle.mask.specs.Bits.{bits, someBelow, both, included, excluded};
 ghost use Rattle.rules.specs.State.{inProduct, queues};
 ghost use Rattle.rules.specs.Queues.{reserved};
 ghost use Rattle.rules.specs.Commands.{assign, unassign, onDevice, assignAt, paired, slotOf, limitOf, numbersOf, withNumbers, withDevice};
-ghost use Rattle.record.specs.Layout.{deviceIn, limitsIn, hostIn};
 ghost use Rattle.record.specs.Carried.{Carried};
 ghost use Rattle.assign.specs.Numbers.{changed, withNumber, withoutNumber};
+ghost use Rattle.record.specs.Lent.{limits, host, devices};
 
 // A product of adapters and domains.
 struct Product {
@@ -50,7 +50,7 @@ pub fn unassign(words: &mut Words, kind: Kind, id: Id, text: &[u8]) -> Answer
 }
 
 fn assign_number(words: &mut Words, kind: Kind, id: Id, number: u16) -> Answer
-    ensures { λ r. ⌜ Carried (λ t. onDevice id t (λ slot. cond (leb number (limitOf kind (t .limits))) (assignAt kind number slot t) (refused Enodev))) (changed (now (words .entry)) kind (slotOf id (deviceIn (now (words .entry)))) (included number)) (now (words .entry)) (now (words .exit)) r ⌝ }
+    ensures { λ r. ⌜ Carried (λ t. onDevice id t (λ slot. cond (leb number (limitOf kind (t .limits))) (assignAt kind number slot t) (refused Enodev))) (changed (now (words .entry)) kind (slotOf id (devices (words .entry))) (included number)) (now (words .entry)) (now (words .exit)) r ⌝ }
 {
     let slot = lookup::find(words, id);
     if SLOTS <= slot {
@@ -63,7 +63,7 @@ fn assign_number(words: &mut Words, kind: Kind, id: Id, number: u16) -> Answer
 }
 
 fn unassign_number(words: &mut Words, kind: Kind, id: Id, number: u16) -> Answer
-    ensures { λ r. ⌜ Carried (λ t. onDevice id t (λ slot. cond (leb number (limitOf kind (t .limits))) (granted (withDevice slot (withNumbers kind (excluded number (numbersOf kind (t .device slot))) (t .device slot)) t)) (refused Enodev))) (changed (now (words .entry)) kind (slotOf id (deviceIn (now (words .entry)))) (excluded number)) (now (words .entry)) (now (words .exit)) r ⌝ }
+    ensures { λ r. ⌜ Carried (λ t. onDevice id t (λ slot. cond (leb number (limitOf kind (t .limits))) (granted (withDevice slot (withNumbers kind (excluded number (numbersOf kind (t .device slot))) (t .device slot)) t)) (refused Enodev))) (changed (now (words .entry)) kind (slotOf id (devices (words .entry))) (excluded number)) (now (words .entry)) (now (words .exit)) r ⌝ }
 {
     let slot = lookup::find(words, id);
     if SLOTS <= slot {
@@ -80,14 +80,14 @@ fn unassign_number(words: &mut Words, kind: Kind, id: Id, number: u16) -> Answer
 
 // Whether a number is at most the limit of its kind.
 fn in_range(words: &Words, kind: Kind, number: u16) -> bool
-    ensures { λ r. ⌜ r ≡ leb number (limitOf kind (limitsIn (now (words .entry)))) ⌝ }
+    ensures { λ r. ⌜ r ≡ leb number (limitOf kind (limits (words .entry))) ⌝ }
 {
     number <= (limit(words, kind) as u16)
 }
 
 // The limit of a kind of number.
 fn limit(words: &Words, kind: Kind) -> u8
-    ensures { λ r. ⌜ r ≡ limitOf kind (limitsIn (now (words .entry))) ⌝ }
+    ensures { λ r. ⌜ r ≡ limitOf kind (limits (words .entry)) ⌝ }
 {
     match kind {
         Kind::Adapter => record::max_adapter(words),
@@ -121,7 +121,7 @@ fn assign_at(words: &mut Words, kind: Kind, slot: usize, number: u8) -> Answer
 
 // Whether a queue of a product is reserved for the host.
 fn reserved(words: &Words, adapters: Mask, domains: Mask) -> bool
-    ensures { λ r. ⌜ r ≡ someBelow queues (both (inProduct (bits adapters) (bits domains)) (reserved (hostIn (now (words .entry))))) ⌝ }
+    ensures { λ r. ⌜ r ≡ someBelow queues (both (inProduct (bits adapters) (bits domains)) (reserved (host (words .entry)))) ⌝ }
 {
     if adapters.meets(record::apmask(words)) {
         return domains.meets(record::aqmask(words));
@@ -131,7 +131,7 @@ fn reserved(words: &Words, adapters: Mask, domains: Mask) -> bool
 
 // The queues that a new number pairs with the device's numbers of the other kind, as a product.
 fn paired(words: &Words, kind: Kind, slot: usize, number: u8) -> Product
-    ensures { λ r. ⌜ inProduct (bits (r .adapters)) (bits (r .domains)) ≡ paired kind number (deviceIn (now (words .entry)) slot) ⌝ }
+    ensures { λ r. ⌜ inProduct (bits (r .adapters)) (bits (r .domains)) ≡ paired kind number (devices (words .entry) slot) ⌝ }
 {
     match kind {
         Kind::Adapter => Product {

@@ -10,8 +10,8 @@ use lib.ListN.{length, getD, drop, length-drop}
 use lib.Seq.{ext-getD, getD-drop}
 use borrow.Author.Tests.{le-leb, lt-leb}
 use Rattle.mask.specs.declared.Mask.{Mask}
-use Rattle.mask.specs.Bits.{digit, bitAt, bits}
-use Rattle.mask.proofs.Laws.{Words, same-bits, numbers-words, numbers-bits}
+use Rattle.mask.specs.Bits.{Sized, digit, bitAt, bits}
+use Rattle.mask.proofs.Laws.{same-bits, numbers-words, numbers-bits}
 use Rattle.encoding.specs.Encoding.{bytesAt, maskOf, sizeOf, whole}
 
 -- the bytes from an index on: how many
@@ -43,7 +43,7 @@ bit-from b xs k i h l =
     ap₂ (λ (x p : ℕ). digit x (7 - p)) (h (i / 8) (omega arith) ∙ ap (λ (q : ℕ). getD b q 0) byte) slot
 
 -- a mask whose 32 bytes are those from an index on is the mask there
-pub same-mask : (b xs : List ℕ) (k : ℕ) (m : Mask) → Words 64 4 (m .words) → bits m ≡ bitAt 8 xs
+pub same-mask : (b xs : List ℕ) (k : ℕ) (m : Mask) → Sized 64 4 (m .words) → bits m ≡ bitAt 8 xs
     → ((j : ℕ) → j < 32 → getD xs j 0 ≡ getD b (k + j) 0) → m ≡ maskOf b k
 unfolding maskOf
 same-mask b xs k m w e h =

@@ -12,8 +12,8 @@ use Rattle.errno.specs.Outcome.{Outcome, granted, refused}
 use Rattle.errno.specs.Errno.{numberOf}
 use Rattle.errno.specs.declared.Errno.the-variants.{Enodev, Einval, Eaddrinuse}
 use Rattle.mask.specs.declared.Mask.{Mask}
-use Rattle.mask.specs.Bits.{Bits, bits, someBelow, both, bitsAbove}
-use Rattle.mask.proofs.Laws.{Words, mask-words}
+use Rattle.mask.specs.Bits.{Sized, Bits, bits, someBelow, both, bitsAbove}
+use Rattle.mask.proofs.Laws.{mask-words}
 use Rattle.masktext.proofs.MaskRead.{the-row}
 use Rattle.masktext.specs.declared.MaskRead.{MaskRead}
 use Rattle.masktext.specs.Text.{outcome, maskText}
@@ -30,7 +30,7 @@ use Rattle.record.proofs.Laws.{words-of}
 use Rattle.host.specs.Masks.{maskOr, withMask}
 
 -- the mask of a text has four words, by what owning it tells
-pub read-words : (r : MaskRead) {vs : List Val} → Is the-row r vs → Words 64 4 (r .mask .words)
+pub read-words : (r : MaskRead) {vs : List Val} → Is the-row r vs → Sized 64 4 (r .mask .words)
 read-words r h = mask-words (r .mask) (h .1 .1 .1 .0)
 
 -- one queue more
@@ -70,7 +70,7 @@ module _ (text ws : List ℕ) (at : ℕ) (host : Bits → HostMasks) (old : Mask
         (sym (e ∙ ap₂ (λ (a b : Bits). someBelow queues (both a b)) same (elsewhere-anywhere (deviceIn ws))))
 
     -- the words that are put
-    pub put-words : Words 64 4 (new .mask .words) → putFour ws at (new .mask .words) ≡ withMask ws at text
+    pub put-words : Sized 64 4 (new .mask .words) → putFour ws at (new .mask .words) ≡ withMask ws at text
     unfolding withMask maskOr
     put-words w = ap (putFour ws at) (sym (words-of w) ∙ ap wordsOf (ap (maskOr (maskAt ws at)) (sym read-as)))
 
@@ -84,13 +84,13 @@ with-aqmask ws m = record { apmask = maskAt ws apmaskAt; aqmask = m }
 -- ---- the configuration
 
 -- its masks have four words each, by what owning it tells
-pub adapters-words : (g : Configuration) {vs : List Val} → Is config-row g vs → Words 64 4 (g .adapters .words)
+pub adapters-words : (g : Configuration) {vs : List Val} → Is config-row g vs → Sized 64 4 (g .adapters .words)
 adapters-words g h = mask-words (g .adapters) (h .1 .1 .0)
 
-pub domains-words : (g : Configuration) {vs : List Val} → Is config-row g vs → Words 64 4 (g .domains .words)
+pub domains-words : (g : Configuration) {vs : List Val} → Is config-row g vs → Sized 64 4 (g .domains .words)
 domains-words g h = mask-words (g .domains) (h .1 .1 .1 .0)
 
-pub controls-words : (g : Configuration) {vs : List Val} → Is config-row g vs → Words 64 4 (g .controls .words)
+pub controls-words : (g : Configuration) {vs : List Val} → Is config-row g vs → Sized 64 4 (g .controls .words)
 controls-words g h = mask-words (g .controls) (h .1 .1 .1 .1 .0)
 
 -- a test of one limit

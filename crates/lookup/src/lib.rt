@@ -11,11 +11,11 @@ ghost use mathlib.Core.Path.{_≡_};
 ghost use Rattle.mask.specs.Bits.{bits, someBelow, both};
 ghost use Rattle.rules.specs.State.{inProduct, queues};
 ghost use Rattle.rules.specs.Commands.{sameId, slotOf, freeSlot, assignedElsewhere};
-ghost use Rattle.record.specs.Layout.{deviceIn};
+ghost use Rattle.record.specs.Lent.{devices};
 
 // The slot of the device with an id, or SLOTS where there is none.
 pub fn find(words: &Words, id: Id) -> usize
-    ensures { λ r. ⌜ r ≡ slotOf id (deviceIn (now (words .entry))) ⌝ }
+    ensures { λ r. ⌜ r ≡ slotOf id (devices (words .entry)) ⌝ }
 {
     let mut slot = 0usize;
     while slot < SLOTS {
@@ -29,7 +29,7 @@ pub fn find(words: &Words, id: Id) -> usize
 
 // Whether the device with an id is at slot p.
 fn is_at(words: &Words, slot: usize, id: Id) -> bool
-    ensures { λ r. ⌜ r ≡ (deviceIn (now (words .entry)) slot .present && sameId id (deviceIn (now (words .entry)) slot .id)) ⌝ }
+    ensures { λ r. ⌜ r ≡ (devices (words .entry) slot .present && sameId id (devices (words .entry) slot .id)) ⌝ }
 {
     if occupied(words, slot) {
         let j = record::id(words, slot);
@@ -42,14 +42,14 @@ fn is_at(words: &Words, slot: usize, id: Id) -> bool
 
 // Whether there is a device at slot p, open or not.
 fn occupied(words: &Words, slot: usize) -> bool
-    ensures { λ r. ⌜ r ≡ deviceIn (now (words .entry)) slot .present ⌝ }
+    ensures { λ r. ⌜ r ≡ devices (words .entry) slot .present ⌝ }
 {
     record::present(words, slot)
 }
 
 // The lowest free slot, or SLOTS where there is none.
 pub fn free(words: &Words) -> usize
-    ensures { λ r. ⌜ r ≡ freeSlot (deviceIn (now (words .entry))) ⌝ }
+    ensures { λ r. ⌜ r ≡ freeSlot (devices (words .entry)) ⌝ }
 {
     let mut slot = 0usize;
     while slot < SLOTS {
@@ -63,7 +63,7 @@ pub fn free(words: &Words) -> usize
 
 // Whether a queue of a product is assigned to another device than the one at slot p.
 pub fn taken(words: &Words, slot: usize, adapters: Mask, domains: Mask) -> bool
-    ensures { λ r. ⌜ r ≡ someBelow queues (both (inProduct (bits adapters) (bits domains)) (assignedElsewhere slot (deviceIn (now (words .entry))))) ⌝ }
+    ensures { λ r. ⌜ r ≡ someBelow queues (both (inProduct (bits adapters) (bits domains)) (assignedElsewhere slot (devices (words .entry)))) ⌝ }
 {
     let mut other = 0usize;
     while other < SLOTS {
@@ -79,7 +79,7 @@ pub fn taken(words: &Words, slot: usize, adapters: Mask, domains: Mask) -> bool
 
 // Whether a queue of a product is assigned to the device at slot j.
 fn shares(words: &Words, slot: usize, adapters: Mask, domains: Mask) -> bool
-    ensures { λ r. ⌜ r ≡ (deviceIn (now (words .entry)) slot .present && (someBelow 256 (both (bits adapters) (deviceIn (now (words .entry)) slot .adapters)) && someBelow 256 (both (bits domains) (deviceIn (now (words .entry)) slot .domains)))) ⌝ }
+    ensures { λ r. ⌜ r ≡ (devices (words .entry) slot .present && (someBelow 256 (both (bits adapters) (devices (words .entry) slot .adapters)) && someBelow 256 (both (bits domains) (devices (words .entry) slot .domains)))) ⌝ }
 {
     if occupied(words, slot) {
         if adapters.meets(record::numbers(words, slot, Kind::Adapter)) {

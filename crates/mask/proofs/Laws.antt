@@ -21,7 +21,7 @@ use mir.Syntax.{w64}
 use denote.Laws.{Is}
 use Rattle.mask.specs.declared.Mask.{Mask}
 use Rattle.mask.proofs.Mask.{the-row}
-use Rattle.mask.specs.Bits.{Bits, digit, bitAt, bits, someBelow, countBelow, number, numbers}
+use Rattle.mask.specs.Bits.{Sized, Bits, digit, bitAt, bits, someBelow, countBelow, number, numbers}
 use Rattle.mask.proofs.Bit.{digit-or, digit-clear, digit-zero, digit-pow, digit-mod, digit-half, half-small, digit-snoc, digit-last, same-digits, some-digit}
 
 -- two tests that follow from each other are one
@@ -33,11 +33,6 @@ same-test {a} {b} f g = go a b f g
     go false true f g = g refl
     go false false f g = refl
 
--- a list is n numbers of w bits
-pub record Words (w n : ℕ) (xs : List ℕ) : Type 0 where
-  pub long : length xs ≡ n
-  pub small : (k : ℕ) → getD xs k 0 < 2 ^ w
-
 -- ---- the bits of a list of numbers
 
 -- bit j of number q
@@ -46,7 +41,7 @@ unfolding bitAt
 bit-of w q j xs h = ap₂ (λ (a b : ℕ). digit (getD xs a 0) (w - 1 - b)) (digits-div q h) (digits-mod q h)
 
 -- lists with the same bits are equal
-pub same-bits : {w n : ℕ} {xs ys : List ℕ} → 0 < w → Words w n xs → Words w n ys
+pub same-bits : {w n : ℕ} {xs ys : List ℕ} → 0 < w → Sized w n xs → Sized w n ys
     → ((i : ℕ) → i < n * w → bitAt w xs i ≡ bitAt w ys i) → xs ≡ ys
 same-bits {w} {n} {xs} {ys} p hx hy e =
     ext-getD 0 xs ys (hx .long ∙ sym (hy .long))
@@ -65,7 +60,7 @@ none-at {n} {q} xs k e h =
     ap (λ (x : ℕ). digit x k) (List·getD-eq-default xs 0 {n = q} (subst (λ (m : ℕ). m ≤ q) (sym e) h)) ∙ digit-zero k
 
 -- no bit past the last number
-pub past-end : {w n : ℕ} {xs : List ℕ} (i : ℕ) → 0 < w → Words w n xs → n * w ≤ i → bitAt w xs i ≡ false
+pub past-end : {w n : ℕ} {xs : List ℕ} (i : ℕ) → 0 < w → Sized w n xs → n * w ≤ i → bitAt w xs i ≡ false
 unfolding bitAt
 past-end {w} {n} {xs} i p r h = none-at xs (w - 1 - i % w) (r .long) (le-div-iff-mul-le p .1 h)
 
@@ -269,7 +264,7 @@ or-some a b = go (eqb a 0) (eqb b 0) refl refl
     go true false p q = ap not (ne-eqb (bitOr a b) 0 (λ z. eqb-false b 0 q (omega (arith, or-add-and a b, and-le-l a b, and-le-r a b))))
     go false t p q = ap not (ne-eqb (bitOr a b) 0 (λ z. eqb-false a 0 p (omega (arith, or-add-and a b, and-le-l a b, and-le-r a b))))
 
-module _ {w n : ℕ} {xs : List ℕ} (h : Words w n xs) (q a : ℕ) where
+module _ {w n : ℕ} {xs : List ℕ} (h : Sized w n xs) (q a : ℕ) where
   -- a is not 0 where some bit of the first q numbers is set; so with one number more
   pub some-next : not (eqb a 0) ≡ someBelow (q * w) (bitAt w xs) → not (eqb (bitOr a (getD xs q 0)) 0) ≡ someBelow (q * w + w) (bitAt w xs)
   some-next e =
@@ -322,7 +317,7 @@ numbers-at w zero m k q h = absurd (not-suc-le-zero h)
 numbers-at w (suc n) m k zero h = ap (number w m) (omega arith)
 numbers-at w (suc n) m k (suc q) h = numbers-at w n m (k + w) q (le-of-suc-le-suc h) ∙ ap (number w m) (omega arith)
 
-pub numbers-words : (w n : ℕ) (m : Bits) (k : ℕ) → Words w n (numbers w n m k)
+pub numbers-words : (w n : ℕ) (m : Bits) (k : ℕ) → Sized w n (numbers w n m k)
 numbers-words w n m k = record { long = numbers-long w n m k; small = λ q. go q (ltb q n) refl }
   where
     go : (q : ℕ) (b : Bool) → ltb q n ≡ b → getD (numbers w n m k) q 0 < 2 ^ w
@@ -339,14 +334,14 @@ numbers-bits w n m k i p h =
     ∙ number-digit w m (k + i / w * w) (i % w) (mod-lt i p)
     ∙ ap m (add-assoc k (i / w * w) (i % w) ∙ ap (λ (x : ℕ). k + x) (div-add-mod' i w))
 
-pub numbers-of-bits : {w n : ℕ} {xs : List ℕ} → 0 < w → Words w n xs → numbers w n (bitAt w xs) 0 ≡ xs
+pub numbers-of-bits : {w n : ℕ} {xs : List ℕ} → 0 < w → Sized w n xs → numbers w n (bitAt w xs) 0 ≡ xs
 numbers-of-bits {w} {n} {xs} p h =
     same-bits p (numbers-words w n (bitAt w xs) 0) h (λ i l. numbers-bits w n (bitAt w xs) 0 i p l ∙ ap (bitAt w xs) (zero-add i))
 
 -- ---- a mask
 
 -- a mask has four words of 64 bits, by what owning it tells: `c .good` of a parameter, `c .CALL .ok` of a result
-pub mask-words : (m : Mask) {vs : List Val} → Is the-row m vs → Words 64 4 (m .words)
+pub mask-words : (m : Mask) {vs : List Val} → Is the-row m vs → Sized 64 4 (m .words)
 mask-words m h = record { long = search needs; small = λ k. elem-fits-field w64 w64 (m .words) (h .1 .1 .0 .0) k (h .1 .1 .0 .1 .1) tt .fits }
 
 -- what holds at 0, 1, 2 and 3 holds below 4
@@ -360,7 +355,7 @@ below-four P a b c d (suc (suc (suc (suc q)))) h = absurd (omega arith)
 -- the bits of a mask that is made word by word from two
 pub mask-op : (x y : Mask) (op : ℕ → ℕ → ℕ) (g : Bool → Bool → Bool)
     → ((a b k : ℕ) → digit (op a b) k ≡ g (digit a k) (digit b k)) → g false false ≡ false
-    → Words 64 4 (x .words) → Words 64 4 (y .words) → (i : ℕ)
+    → Sized 64 4 (x .words) → Sized 64 4 (y .words) → (i : ℕ)
     → bitAt 64 (map (λ q. op (getD (x .words) q 0) (getD (y .words) q 0)) (0 ∷ 1 ∷ 2 ∷ 3 ∷ [])) i ≡ g (bits x i) (bits y i)
 mask-op x y op g law none hx hy =
     op-bits 64 4 (x .words) (y .words) zs op g law none (hx .long) (hy .long) refl

@@ -1,9 +1,10 @@
 -- Masks as sets of bit numbers, and what is done with them, bit by bit. Bit 0 is the leftmost: the most significant bit of the first byte.
 -- Assumes nothing.
-use Prim.Native.Nat.{ℕ, zero, suc, _+_, _-_, _*_, _/_, _%_, _^_}
+use Prim.Native.Nat.{ℕ, zero, suc, _+_, _-_, _*_, _/_, _%_, _^_, _<_}
 use mathlib.Core.Bool.{Bool, true, false, cond, not, _&&_, _||_}
 use mathlib.Core.List.{List, [], _∷_}
-use lib.ListN.{getD}
+use mathlib.Core.Path.{_≡_}
+use lib.ListN.{length, getD}
 use lib.Dec.{eqb, ltb}
 use Rattle.mask.specs.declared.Mask.{Mask}
 
@@ -74,3 +75,12 @@ number (suc w) m k = number w m k * 2 + cond (m (k + w)) 1 0
 unfoldable pub numbers : ℕ → ℕ → Bits → ℕ → List ℕ
 numbers w zero m k = []
 numbers w (suc n) m k = number w m k ∷ numbers w n m (k + w)
+
+-- numbers of w bits
+abbrev pub Small : ℕ → List ℕ → Type 0
+Small w xs = (k : ℕ) → getD xs k 0 < 2 ^ w
+
+-- n numbers of w bits
+pub record Sized (w n : ℕ) (xs : List ℕ) : Type 0 where
+  pub long : length xs ≡ n
+  pub small : Small w xs

@@ -17,9 +17,9 @@ use mir.Syntax.{w8}
 use denote.Laws.{Is}
 use denote.Array.{Array}
 use denote.Plain.{UInt}
-use Rattle.mask.specs.Bits.{Bits, digit, bitAt, group, number}
+use Rattle.mask.specs.Bits.{Sized, Bits, digit, bitAt, group, number}
 use Rattle.mask.proofs.Bit.{digit-or, digit-past, digit-join, digit-shifted, same-digits}
-use Rattle.mask.proofs.Laws.{Words, bit-of, set-bits, number-small, number-digit}
+use Rattle.mask.proofs.Laws.{bit-of, set-bits, number-small, number-digit}
 
 -- ---- a group of four bits
 
@@ -87,7 +87,7 @@ joined a (suc c) m k =
     ∙ omega (arith, mul-assoc (number a m k) (2 ^ c) 2, ap (λ (p : ℕ). number a m k * p) (pow-suc 2 c))
 
 -- 32 bytes, by what owning them tells: `c .good` of a parameter
-pub bytes-words : (b : List ℕ) {vs : List Val} → Is (Array (UInt w8) 32) b vs → Words 8 32 b
+pub bytes-words : (b : List ℕ) {vs : List Val} → Is (Array (UInt w8) 32) b vs → Sized 8 32 b
 bytes-words b h = record { long = h .1 .0 .1; small = λ k. elem-fits w8 w8 b (h .0) k (h .1 .1) tt .fits }
 
 -- four bytes and eight bytes that follow each other

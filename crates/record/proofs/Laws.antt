@@ -16,9 +16,9 @@ use Rattle.errno.specs.declared.Errno.{Errno}
 use Rattle.errno.specs.declared.Errno.the-variants.{Enoent, Ebusy, Eexist, Enodev, Einval, Enospc, Eaddrinuse, Eaddrnotavail}
 use Rattle.errno.specs.Errno.{numberOf}
 use Rattle.errno.specs.Outcome.{Outcome, granted, refused}
-use Rattle.mask.specs.Bits.{Bits, bits, bitAt, digit, noBits, allBits, numbers}
+use Rattle.mask.specs.Bits.{Sized, Bits, bits, bitAt, digit, noBits, allBits, numbers}
 use Rattle.mask.proofs.Bit.{digit-zero, digit-ones}
-use Rattle.mask.proofs.Laws.{Words, each-bits, past-end, numbers-words, numbers-bits, numbers-of-bits, below-four}
+use Rattle.mask.proofs.Laws.{each-bits, past-end, numbers-words, numbers-bits, numbers-of-bits, below-four}
 use Rattle.rules.specs.declared.Answer.{Answer}
 use Rattle.rules.specs.declared.Answer.the-variants.{Done, Refused}
 use Rattle.rules.specs.declared.Kind.{Kind}
@@ -32,7 +32,6 @@ use Rattle.rules.specs.Queues.{rebound}
 use Rattle.rules.specs.Commands.{numbersOf, withDevice, withHost, withNumbers, withOpen, newDevice, withConfig, stored, answered, errnoOf, stateAfter}
 use Rattle.record.specs.Layout.{wordCount, four, maskAt, flag, driverOf, byteOf, limitsIn, hostIn, configIn, deviceIn, stateIn, wordsOf, putFour, putNumbers, putOpen, putDevice, putTypes, putConfig, freshWords, unbind, takenAway, apmaskAt, aqmaskAt, configAt, typesAt, deviceAt, kindAt, noId, zeros, ones}
 use Rattle.record.specs.Carried.{Memory, memory, read, onWords, memoryAfter, Carried, CarriedWords}
-use Rattle.record.specs.Held.{Held}
 
 -- a choice by an order that is known
 pub cond-below : {A : Type 0} (p n : ℕ) (a b : A) → p < n → cond (ltb p n) a b ≡ a
@@ -42,7 +41,7 @@ pub cond-past : {A : Type 0} (p n : ℕ) (a b : A) → n ≤ p → cond (ltb p n
 cond-past {A} p n a b h = ap (λ (t : Bool). cond {A = A} t a b) (le-ltb p n h)
 
 -- a choice that is one value either way
-cond-both : {A : Type 0} (t : Bool) (a : A) → cond t a a ≡ a
+pub cond-both : {A : Type 0} (t : Bool) (a : A) → cond t a a ≡ a
 cond-both true a = refl
 cond-both false a = refl
 
@@ -91,13 +90,13 @@ apart-first j k (inl h) = omega arith
 apart-first j k (inr h) = omega arith
 
 -- the first one, two and three of four words put
-abbrev put1 : List ℕ → ℕ → List ℕ → List ℕ
+abbrev pub put1 : List ℕ → ℕ → List ℕ → List ℕ
 put1 ws k m = set ws k (getD m 0 0)
 
-abbrev put2 : List ℕ → ℕ → List ℕ → List ℕ
+abbrev pub put2 : List ℕ → ℕ → List ℕ → List ℕ
 put2 ws k m = set (put1 ws k m) (k + 1) (getD m 1 0)
 
-abbrev put3 : List ℕ → ℕ → List ℕ → List ℕ
+abbrev pub put3 : List ℕ → ℕ → List ℕ → List ℕ
 put3 ws k m = set (put2 ws k m) (k + 2) (getD m 2 0)
 
 pub word-other : (ws : List ℕ) (k : ℕ) (m : List ℕ) (j : ℕ) → (j < k) ⊎ (k + 4 ≤ j) → getD (putFour ws k m) j 0 ≡ getD ws j 0
@@ -386,11 +385,11 @@ one-bits =
     (λ i l. le-ltb i 256 (omega arith)))
 
 -- the mask of words is the words
-pub words-of : {m : List ℕ} → Words 64 4 m → wordsOf (bitAt 64 m) ≡ m
+pub words-of : {m : List ℕ} → Sized 64 4 m → wordsOf (bitAt 64 m) ≡ m
 unfolding wordsOf
 words-of h = numbers-of-bits (omega arith) h
 
-pub words-words : (m : Bits) → Words 64 4 (wordsOf m)
+pub words-words : (m : Bits) → Sized 64 4 (wordsOf m)
 unfolding wordsOf
 words-words m = numbers-words 64 4 m 0
 
@@ -606,8 +605,8 @@ maskWords ws c = putFour (putFour (putFour ws configAt (c .adapters .words)) (co
 abbrev typeOf : Configuration → ℕ → ℕ
 typeOf c a = cond (bits (c .adapters) a) (getD (c .types) a 0) 0
 
-module _ (ws : List ℕ) (c : Configuration) (long : length ws ≡ wordCount) (wa : Words 64 4 (c .adapters .words)) (wd : Words 64 4 (c .domains .words))
-    (wc : Words 64 4 (c .controls .words)) where
+module _ (ws : List ℕ) (c : Configuration) (long : length ws ≡ wordCount) (wa : Sized 64 4 (c .adapters .words)) (wd : Sized 64 4 (c .domains .words))
+    (wc : Sized 64 4 (c .controls .words)) where
   off-config : Off 10 268 ws (putConfig ws c)
   unfolding putConfig
   off-config =
@@ -788,9 +787,3 @@ carried-as rule rule′ effect effect′ ws {vs} {r} h e c =
       state = c qs .state ∙ ap (stateAfter (stateIn ws qs)) (sym (h qs));
       bytes = c qs .bytes ∙ ap₂ (λ (o : Outcome State) (l : List ℕ). memoryAfter (memory ws qs) o (memory l qs)) (sym (h qs)) (sym e);
     }
-
--- ---- what a reference to the record tells
-
--- the words that `hold_words` and `hold_drivers` speak of
-pub record-words : {w n : ℕ} {xs : List ℕ} → Held w n xs → Words w n xs
-record-words h = record { long = h .long; small = h .small }

@@ -150,6 +150,21 @@ putConfig ws c =
     putTypes (putFour (putFour (putFour ws configAt (c .adapters .words)) (configAt + 4) (c .domains .words)) (configAt + 8) (c .controls .words))
     (λ a. cond (bits (c .adapters) a) (getD (c .types) a 0) 0) 256
 
+-- the configuration of a fresh record
+abbrev pub noConfiguration : Configuration
+noConfiguration =
+    record {
+      adapters = record { words = zeros };
+      domains = record { words = zeros };
+      controls = record { words = zeros };
+      types = replicate 256 0;
+    }
+
+-- the words with the first n slots emptied
+unfoldable pub clearSlots : List ℕ → ℕ → List ℕ
+clearSlots ws zero = ws
+clearSlots ws (suc n) = putDevice (clearSlots ws n) n false noId
+
 -- a word with all bits set
 abbrev pub ones : ℕ
 ones = 2 ^ 64 - 1

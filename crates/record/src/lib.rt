@@ -12,12 +12,12 @@ ghost use mathlib.Core.Path.{_≡_};
 ghost use Prim.Native.Nat.{_+_, _*_, _<_, min};
 ghost use mathlib.Core.Bool.{cond};
 ghost use lib.ListN.{getD, set, replicate};
-ghost use Rattle.mask.specs.Bits.{bits};
-ghost use Rattle.rules.specs.State.{queues};
+ghost use Rattle.mask.specs.Bits.{bits, Small, Sized};
+ghost use Rattle.rules.specs.State.{slots, queues, apqn};
 ghost use Rattle.rules.specs.Commands.{numbersOf};
-ghost use Rattle.record.specs.Held.{Held, Small};
-ghost use Rattle.record.specs.Layout.{wordCount, four, limitsIn, hostIn, configIn, deviceIn, driverOf, byteOf, kindAt, apmaskAt, aqmaskAt};
-ghost use Rattle.record.specs.Layout.{putFour, putNumbers, putOpen, putDevice, putTypes, putConfig, freshWords};
+ghost use Rattle.record.specs.Layout.{wordCount, four, driverOf, byteOf, kindAt, apmaskAt, aqmaskAt};
+ghost use Rattle.record.specs.Layout.{putFour, putNumbers, putOpen, putDevice, putTypes, putConfig, freshWords, noConfiguration, clearSlots};
+ghost use Rattle.record.specs.Lent.{limits, host, config, devices};
 
 // The number of slots for mediated devices.
 pub const SLOTS: usize = 8;
@@ -45,13 +45,13 @@ pub type Drivers = [u8; QUEUES];
 
 // A reference to an array says how long it is only where it becomes a slice. These two do nothing but state that.
 pub fn hold_words(words: &Words)
-    ensures { λ r. ⌜ Held 64 wordCount (now (words .entry)) ⌝ }
+    ensures { λ r. ⌜ Sized 64 wordCount (now (words .entry)) ⌝ }
 {
     small_words(words);
 }
 
 pub fn hold_drivers(drivers: &Drivers)
-    ensures { λ r. ⌜ Held 8 queues (now (drivers .entry)) ⌝ }
+    ensures { λ r. ⌜ Sized 8 queues (now (drivers .entry)) ⌝ }
 {
     small_bytes(drivers);
 }
@@ -92,16 +92,16 @@ fn put_mask(words: &mut Words, at: usize, mask: Mask)
     words[at + 3] = w[3];
 }
 
-pub fn max_adapter(words: &Words) -> u8
-    ensures { λ r. ⌜ r ≡ limitsIn (now (words .entry)) .adapter ⌝ }
+pub fn max_adapter(words: &Words) -> Apid
+    ensures { λ r. ⌜ r .0 ≡ limits (words .entry) .adapter ⌝ }
 {
-    limit(words[0])
+    Apid(limit(words[0]))
 }
 
-pub fn max_domain(words: &Words) -> u8
-    ensures { λ r. ⌜ r ≡ limitsIn (now (words .entry)) .domain ⌝ }
+pub fn max_domain(words: &Words) -> Apqi
+    ensures { λ r. ⌜ r .0 ≡ limits (words .entry) .domain ⌝ }
 {
-    limit(words[1])
+    Apqi(limit(words[1]))
 }
 
 // A limit is at most 255.
@@ -112,44 +112,44 @@ fn limit(w: u64) -> u8
 }
 
 pub fn apmask(words: &Words) -> Mask
-    ensures { λ r. ⌜ bits r ≡ hostIn (now (words .entry)) .apmask ⌝ }
+    ensures { λ r. ⌜ bits r ≡ host (words .entry) .apmask ⌝ }
 {
     mask_at(words, APMASK)
 }
 
 pub fn aqmask(words: &Words) -> Mask
-    ensures { λ r. ⌜ bits r ≡ hostIn (now (words .entry)) .aqmask ⌝ }
+    ensures { λ r. ⌜ bits r ≡ host (words .entry) .aqmask ⌝ }
 {
     mask_at(words, AQMASK)
 }
 
 pub fn configured_adapters(words: &Words) -> Mask
-    ensures { λ r. ⌜ bits r ≡ configIn (now (words .entry)) .adapters ⌝ }
+    ensures { λ r. ⌜ bits r ≡ config (words .entry) .adapters ⌝ }
 {
     mask_at(words, ADAPTERS)
 }
 
 pub fn configured_domains(words: &Words) -> Mask
-    ensures { λ r. ⌜ bits r ≡ configIn (now (words .entry)) .domains ⌝ }
+    ensures { λ r. ⌜ bits r ≡ config (words .entry) .domains ⌝ }
 {
     mask_at(words, DOMAINS)
 }
 
 pub fn configured_controls(words: &Words) -> Mask
-    ensures { λ r. ⌜ bits r ≡ configIn (now (words .entry)) .controls ⌝ }
+    ensures { λ r. ⌜ bits r ≡ config (words .entry) .controls ⌝ }
 {
     mask_at(words, CONTROLS)
 }
 
 pub fn hardware_type(words: &Words, adapter: Apid) -> u64
-    ensures { λ r. ⌜ r ≡ configIn (now (words .entry)) .types (adapter .0) ⌝ }
+    ensures { λ r. ⌜ r ≡ config (words .entry) .types (adapter .0) ⌝ }
 {
     words[TYPES + adapter.0 as usize]
 }
 
 // Whether there is a device at slot p. Here and below there is none past the last slot.
 pub fn present(words: &Words, slot: usize) -> bool
-    ensures { λ r. ⌜ r ≡ deviceIn (now (words .entry)) slot .present ⌝ }
+    ensures { λ r. ⌜ r ≡ devices (words .entry) slot .present ⌝ }
 {
     if slot < SLOTS {
         return words[FIRST_SLOT + slot * SLOT_WORDS] != 0;
@@ -158,7 +158,7 @@ pub fn present(words: &Words, slot: usize) -> bool
 }
 
 pub fn is_open(words: &Words, slot: usize) -> bool
-    ensures { λ r. ⌜ r ≡ deviceIn (now (words .entry)) slot .isOpen ⌝ }
+    ensures { λ r. ⌜ r ≡ devices (words .entry) slot .isOpen ⌝ }
 {
     if slot < SLOTS {
         return words[FIRST_SLOT + slot * SLOT_WORDS + 1] != 0;
@@ -167,7 +167,7 @@ pub fn is_open(words: &Words, slot: usize) -> bool
 }
 
 pub fn id(words: &Words, slot: usize) -> Id
-    ensures { λ r. ⌜ r ≡ deviceIn (now (words .entry)) slot .id ⌝ }
+    ensures { λ r. ⌜ r ≡ devices (words .entry) slot .id ⌝ }
 {
     if slot < SLOTS {
         return Id {
@@ -180,7 +180,7 @@ pub fn id(words: &Words, slot: usize) -> Id
 
 // The assigned adapters, domains or control domains of the device at slot p.
 pub fn numbers(words: &Words, slot: usize, kind: Kind) -> Mask
-    ensures { λ r. ⌜ bits r ≡ numbersOf kind (deviceIn (now (words .entry)) slot) ⌝ }
+    ensures { λ r. ⌜ bits r ≡ numbersOf kind (devices (words .entry) slot) ⌝ }
 {
     if slot < SLOTS {
         return mask_at(words, FIRST_SLOT + slot * SLOT_WORDS + kind_at(kind));
@@ -276,39 +276,54 @@ fn type_of(configured: bool, t: u8) -> u64
     if configured { t as u64 } else { 0 }
 }
 
-// A fresh record: both host masks all ones, nothing configured, no device.
-pub fn put_fresh(words: &mut Words, adapter: u8, domain: u8)
-    ensures { λ r. ⌜ now (words .exit) ≡ freshWords adapter domain ⌝ }
+// A fresh record: the limits, both host masks all ones, nothing configured, no device. Every word is written.
+pub fn put_fresh(words: &mut Words, adapter: Apid, domain: Apqi)
+    ensures { λ r. ⌜ now (words .exit) ≡ freshWords (adapter .0) (domain .0) ⌝ }
 {
+    hold_words(words);
     let ones = Mask {
         words: [u64::MAX; 4],
     };
-    put_nothing(words);
-    words[0] = adapter as u64;
-    words[1] = domain as u64;
+    words[0] = adapter.0 as u64;
+    words[1] = domain.0 as u64;
     put_mask(words, APMASK, ones);
     put_mask(words, AQMASK, ones);
+    put_configuration(words, nothing_configured());
+    clear_slots(words);
 }
 
-// No device and an empty configuration, with hardware type 0 for all 256 adapters.
-fn put_nothing(words: &mut Words)
-    ensures { λ r. ⌜ now (words .exit) ≡ replicate wordCount 0 ⌝ }
+// The configuration of a fresh record, with hardware type 0 for all 256 adapters.
+fn nothing_configured() -> Configuration
+    ensures { λ r. ⌜ r ≡ noConfiguration ⌝ }
 {
-    *words = [0u64; WORDS];
     let none = Mask { words: [0u64; 4] };
-    put_configuration(
-        words,
-        Configuration {
-            adapters: none,
-            domains: none,
-            controls: none,
-            types: [0u8; 256],
-        },
-    );
+    Configuration {
+        adapters: none,
+        domains: none,
+        controls: none,
+        types: [0u8; 256],
+    }
+}
+
+fn clear_slots(words: &mut Words)
+    ensures { λ r. ⌜ now (words .exit) ≡ clearSlots (now (words .entry)) slots ⌝ }
+{
+    let mut slot = 0usize;
+    while slot < SLOTS {
+        put_device(words, slot, false, Id { hi: 0, lo: 0 });
+        slot += 1;
+    }
+}
+
+// Unbinds every queue.
+pub fn put_unbound(drivers: &mut Drivers)
+    ensures { λ r. ⌜ now (drivers .exit) ≡ replicate queues 0 ⌝ }
+{
+    *drivers = [0u8; QUEUES];
 }
 
 pub fn driver(drivers: &Drivers, adapter: Apid, domain: Apqi) -> Driver
-    ensures { λ r. ⌜ r ≡ driverOf (getD (now (drivers .entry)) (adapter .0 * 256 + domain .0) 0) ⌝ }
+    ensures { λ r. ⌜ r ≡ driverOf (getD (now (drivers .entry)) (apqn adapter domain) 0) ⌝ }
 {
     let b = drivers[adapter.0 as usize * 256 + domain.0 as usize];
     if b == 1 {
@@ -321,7 +336,7 @@ pub fn driver(drivers: &Drivers, adapter: Apid, domain: Apqi) -> Driver
 }
 
 pub fn put_driver(drivers: &mut Drivers, adapter: Apid, domain: Apqi, driver: Driver)
-    ensures { λ r. ⌜ now (drivers .exit) ≡ set (now (drivers .entry)) (adapter .0 * 256 + domain .0) (byteOf driver) ⌝ }
+    ensures { λ r. ⌜ now (drivers .exit) ≡ set (now (drivers .entry)) (apqn adapter domain) (byteOf driver) ⌝ }
 {
     let b = match driver {
         Driver::Unbound => 0u8,

@@ -7,8 +7,8 @@ use mathlib.Core.Path.{_≡_, ap, sym, _∙_}
 use lib.ListN.{length, getD, set}
 use lib.Seq.{ext-getD, getD-set-same, getD-set-other}
 use borrow.Author.Count.{below-more}
-use Rattle.mask.specs.Bits.{bits, bitAt, number, numbers}
-use Rattle.mask.proofs.Laws.{Words, numbers-words, numbers-at}
+use Rattle.mask.specs.Bits.{Sized, bits, bitAt, number, numbers}
+use Rattle.mask.proofs.Laws.{numbers-words, numbers-at}
 use Rattle.maskbytes.proofs.Laws.{byte-at}
 use borrow.Author.Needs.{needs}
 use Rattle.maskbytes.proofs.to_bytes.Statement.{statement}
@@ -55,7 +55,7 @@ loop-again c =
 returns : tie.Need-returns Inv-loop μ-loop
 returns c =
     let m = c .before .before .before .args .m in
-    let packed : Words 8 32 (numbers 8 32 (bits m) 0) = numbers-words 8 32 (bits m) 0 in
+    let packed : Sized 8 32 (numbers 8 32 (bits m) 0) = numbers-words 8 32 (bits m) 0 in
     ext-getD 0 (c .before .loop .out) (numbers 8 32 (bits m) 0) (omega (arith, packed .long))
     (λ q l. c .before .loop .inv .2 q (omega arith) ∙ ap (number 8 (bits m)) (sym (zero-add (q * 8))) ∙ sym (numbers-at 8 32 (bits m) 0 q (omega arith)))
 

@@ -1,38 +1,30 @@
--- `put_fresh` meets its contract.
+-- `put_fresh` meets its contract: its parts make up every word.
 -- Assumes nothing.
 use Prim.Native.Nat.{ℕ}
-use mathlib.Core.Path.{ap, _∙_}
+use mathlib.Core.Path.{ap, ap₂, _∙_}
 use mathlib.Core.List.{List, [], _∷_}
-use lib.ListN.{set}
 use borrow.Author.Needs.{needs}
-use Rattle.record.specs.Layout.{putFour, ones, freshWords}
+use Rattle.rules.specs.State.{slots}
+use Rattle.record.specs.Layout.{putFour, putConfig, clearSlots, ones}
+use Rattle.record.proofs.Fresh.{fresh-over-any}
 use Rattle.record.proofs.put_fresh.Statement.{statement}
 use Rattle.record.proofs.put_fresh.Tie as tie
 
-put-nothing-requires : tie.Need-put-nothing-requires
-put-nothing-requires c κs = search needs
-
-element-write-words : tie.Need-element-write-words
-element-write-words c = search needs
-
-element-write-words-2 : tie.Need-element-write-words-2
-element-write-words-2 c = search needs
-
-put-mask-requires : tie.Need-put-mask-requires
-put-mask-requires c κs = search needs
-
-put-mask-requires-2 : tie.Need-put-mask-requires-2
-put-mask-requires-2 c κs = search needs
-
 returns : tie.Need-returns
-unfolding freshWords
 returns c =
-    c .put-mask2 .ensures
-    ∙ ap (λ (l : List ℕ). putFour l 6 (ones ∷ ones ∷ ones ∷ ones ∷ [])) (c .before .before .put-mask .ensures)
-    ∙ ap (λ (l : List ℕ). putFour (putFour (set (set l 0 (c .before .before .before .before .before .before .args .adapter)) 1 (c .before .before .before .before .before .before .args .domain)) 2 (ones ∷ ones ∷ ones ∷ ones ∷ [])) 6 (ones ∷ ones ∷ ones ∷ ones ∷ []))
-    (c .before .before .before .before .put-nothing .ensures)
+    let a = c .before .before .before .before .before .before .before .before .before .before .before .before .before .args in
+    c .clear-slots .ensures
+    ∙ ap (λ (ws : List ℕ). clearSlots ws slots)
+    (c .before .before .put-configuration .ensures
+    ∙ ap₂ putConfig
+    (c .before .before .before .before .before .put-mask2 .ensures
+    ∙ ap (λ (ws : List ℕ). putFour ws 6 (ones ∷ ones ∷ ones ∷ ones ∷ [])) (c .before .before .before .before .before .before .before .put-mask .ensures))
+    (c .before .before .before .nothing-configured .ensures))
+    ∙ fresh-over-any (a .words .now) (a .adapter .0) (a .domain .0)
+    (c .before .before .before .before .before .before .before .before .before .before .before .hold-words .ensures .long)
 
 pub put-fresh-spec : {M : Type 1} → statement M
 put-fresh-spec =
     tie.close
-    (tie.spec put-nothing-requires element-write-words element-write-words-2 put-mask-requires put-mask-requires-2 returns)
+    (tie.spec (λ c κs. search needs) (λ c. search needs) (λ c. search needs) (λ c. search needs) (λ c. search needs) (λ c κs. search needs)
+    (λ c κs. search needs) (λ c κs. search needs) (λ c κs. search needs) (λ c κs. search needs) returns)

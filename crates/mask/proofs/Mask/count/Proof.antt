@@ -7,8 +7,8 @@ use mathlib.Core.Path.{sym, _∙_}
 use lib.ListN.{getD}
 use lib.Count.{ones, ones-le}
 use borrow.Author.Needs.{needs}
-use Rattle.mask.specs.Bits.{bits}
-use Rattle.mask.proofs.Laws.{Words, mask-words, count-next, count-le}
+use Rattle.mask.specs.Bits.{Sized, bits}
+use Rattle.mask.proofs.Laws.{mask-words, count-next, count-le}
 use Rattle.mask.proofs.Mask.count.Statement.{statement}
 use Rattle.mask.proofs.Mask.count.Tie as tie
 
@@ -40,7 +40,7 @@ add-result-3 c = omega (arith, tops c 0, tops c 1, tops c 2, tops c 3)
 returns : tie.Need-returns
 returns c =
     let x = c .before .args .self .words in
-    let h : Words 64 4 x = mask-words (c .before .args .self) (c .before .good .0) in
+    let h : Sized 64 4 x = mask-words (c .before .args .self) (c .before .good .0) in
     let h₀ = sym (zero-add (ones (getD x 0 0))) ∙ count-next h 0 0 (omega (arith, count-le 0 (bits (c .before .args .self)))) in
     count-next h 3 _ (count-next h 2 _ (count-next h 1 _ h₀))
 
