@@ -16,22 +16,14 @@ use Rattle.rules.specs.declared.Driver.the-variants.{Unbound, Host, Passthrough
 use Rattle.rules.specs.declared.Moved.{Moved}
 use Rattle.rules.specs.declared.Moved.the-variants.{Idle, Released, BoundHost, BoundPassthrough}
 use Rattle.rules.specs.State.{State, HostMasks, Config, queues}
-use Rattle.rules.specs.Queues.{reserved, configured, targetOf, moved, after, due, dueAt, sumBelow, remaining, rebound, moveAnswer, move, moves, sweepFrom}
+use Rattle.rules.specs.Queues.{reserved, configured, targetOf, moved, after, due, dueAt, sumBelow, remaining, rebound, moveAnswer, move, moves, sweepFrom, sweep, mostMoves, movesUsed}
 use Rattle.rules.proofs.Products.{in-product, queue-apid}
-use Rattle.rules.proofs.Sums.{sum-more}
-use Rattle.rules.proofs.Moves.{due-le, sumFrom, sum-split, all-due, remaining-sweep}
+use Rattle.rules.proofs.Sums.{sum-none, sum-more}
+use Rattle.rules.proofs.Sweeps.{sumFrom, sum-split, remaining-swept, sweeping}
 use Rattle.record.specs.Layout.{stateIn, hostIn, configIn, driverOf, byteOf}
 use Rattle.record.proofs.Laws.{driver-of-byte, read-rebound}
-use Rattle.bind.specs.Moves.{bytesAfter, moveBytes, movesBytes, sweepBytes}
-
--- a test that is turned round
-pub not-true : (b : Bool) → not b ≡ true → b ≡ false
-not-true true e = sym e
-not-true false e = refl
-
-pub not-false : (b : Bool) → not b ≡ false → b ≡ true
-not-false true e = refl
-not-false false e = sym e
+use Rattle.bind.specs.declared.Swept.{Swept}
+use Rattle.bind.specs.Moves.{bytesAfter, moveBytes, movesBytes, sweepBytes, Moving, Sweeping}
 
 -- the target of a queue, by its adapter and its domain
 pub target-by : (h : HostMasks) (c : Config) (a d : ℕ) → d < 256
@@ -113,15 +105,21 @@ unfolding movesBytes
 moves-other-byte ws zero n qs j h = refl
 moves-other-byte ws (suc m) n qs j h = moves-other-byte ws m n (moveBytes ws n qs) j h ∙ move-other ws qs n j h
 
--- what a move answers, by the queue's byte and its target
-pub answer-read : (ws qs : List ℕ) (n : ℕ) → moved (driverOf (getD qs n 0)) (targetOf (hostIn ws) (configIn ws) n) ≡ moveAnswer n (stateIn ws qs)
-unfolding moveAnswer stateIn
-answer-read ws qs n = refl
-
 -- the bytes after a move whose answer is known
 pub bytes-by : (ws qs : List ℕ) (n : ℕ) (m : Moved) → m ≡ moveAnswer n (stateIn ws qs) → bytesAfter m n qs ≡ moveBytes ws n qs
 unfolding moveBytes
 bytes-by ws qs n m e = ap (λ (x : Moved). bytesAfter x n qs) e
+
+-- a move, by its answer and the bytes that it leaves
+pub moving : (ws qs rs : List ℕ) (n : ℕ) (m : Moved) → n < length qs → m ≡ moveAnswer n (stateIn ws qs) → rs ≡ bytesAfter m n qs → Moving n ws qs rs m
+moving ws qs rs n m h e b =
+    let d : rs ≡ moveBytes ws n qs = b ∙ bytes-by ws qs n m e in
+    record { answer = e; state = ap (stateIn ws) d ∙ read-move ws qs n h; drivers = d }
+
+-- what a move answers, by the queue's byte and its target
+pub answer-read : (ws qs : List ℕ) (n : ℕ) → moved (driverOf (getD qs n 0)) (targetOf (hostIn ws) (configIn ws) n) ≡ moveAnswer n (stateIn ws qs)
+unfolding moveAnswer stateIn
+answer-read ws qs n = refl
 
 -- no move, one and two
 pub no-moves : (ws : List ℕ) (n : ℕ) (qs : List ℕ) → movesBytes ws 0 n qs ≡ qs
@@ -144,17 +142,13 @@ unfolding dueAt stateIn
 due-read ws qs j = refl
 
 -- the queue of k's adapter and domain is k
-pub queue-split : (k : ℕ) → k < 65536 → k / 256 % 256 * 256 + k % 256 ≡ k
+pub queue-split : (k : ℕ) → k < queues → k / 256 % 256 * 256 + k % 256 ≡ k
 queue-split k h = omega arith
 
-pub due-split : (ws qs : List ℕ) (k : ℕ) → k < 65536
+pub due-split : (ws qs : List ℕ) (k : ℕ) → k < queues
     → due (driverOf (getD qs (k / 256 % 256 * 256 + k % 256) 0)) (targetOf (hostIn ws) (configIn ws) (k / 256 % 256 * 256 + k % 256))
     ≡ dueAt (stateIn ws qs) k
 due-split ws qs k h = rw (queue-split k h) (sym (due-read ws qs k))
-
-pub due-two : (s : State) (j : ℕ) → dueAt s j ≤ 2
-unfolding dueAt
-due-two s j = due-le (s .driver j) (targetOf (s .host) (s .config) j)
 
 -- the bytes after a move, by the driver that the queue has and its target
 step : (ws qs : List ℕ) (k : ℕ) (v t : Driver) → driverOf (getD qs k 0) ≡ v → targetOf (hostIn ws) (configIn ws) k ≡ t
@@ -194,10 +188,6 @@ finished ws qs k n t h e f =
 pub due-byte : (ws qs rs : List ℕ) (j : ℕ) → getD qs j 0 ≡ getD rs j 0 → dueAt (stateIn ws qs) j ≡ dueAt (stateIn ws rs) j
 unfolding dueAt stateIn
 due-byte ws qs rs j e = ap (λ (b : ℕ). due (driverOf b) (targetOf (hostIn ws) (configIn ws) j)) e
-
--- moves of one queue leave what is due of another
-pub due-moves-other : (ws : List ℕ) (m n : ℕ) (qs : List ℕ) (j : ℕ) → (j ≡ n → ⊥) → dueAt (stateIn ws (movesBytes ws m n qs)) j ≡ dueAt (stateIn ws qs) j
-due-moves-other ws m n qs j h = due-byte ws (movesBytes ws m n qs) qs j (moves-other-byte ws m n qs j h)
 
 -- ---- sweeps
 
@@ -240,17 +230,13 @@ sweep-nothing ws (suc n) k b qs e =
     sweep-nothing ws n (suc k) (b - m) (movesBytes ws m k qs) (omega arith) ∙ ap (λ (i : ℕ). movesBytes ws i k qs) z ∙ no-moves ws k qs
 
 -- a sweep of n queues with b moves to make, come to queue k with some left and the bytes qs; it began with the bytes rs
-pub record Sweeping (ws rs : List ℕ) (n b k left : ℕ) (qs : List ℕ) : Type 0 where
+pub record Underway (ws rs : List ℕ) (n b k left : ℕ) (qs : List ℕ) : Type 0 where
   pub below : k ≤ n
   pub bytes : sweepBytes ws n 0 b rs ≡ sweepBytes ws (n - k) k left qs
   pub made : b ≡ left + sumBelow k (dueAt (stateIn ws rs))
   pub ahead : (j : ℕ) → k ≤ j → getD qs j 0 ≡ getD rs j 0
 
-pub sum-none : (f : ℕ → ℕ) → sumBelow 0 f ≡ 0
-unfolding sumBelow
-sum-none f = refl
-
-pub sweep-starts : (ws rs : List ℕ) (n b : ℕ) → Sweeping ws rs n b 0 b rs
+pub sweep-starts : (ws rs : List ℕ) (n b : ℕ) → Underway ws rs n b 0 b rs
 sweep-starts ws rs n b =
     let e : n - 0 ≡ n = omega arith in
     record {
@@ -260,7 +246,7 @@ sweep-starts ws rs n b =
       ahead = λ j h. refl;
     }
 
-module _ (ws rs : List ℕ) (n b k left : ℕ) (qs : List ℕ) (w : Sweeping ws rs n b k left qs) (more : k < n) where
+module _ (ws rs : List ℕ) (n b k left : ℕ) (qs : List ℕ) (w : Underway ws rs n b k left qs) (more : k < n) where
   -- what is due of the queue that the sweep has come to
   pub due-now : dueAt (stateIn ws qs) k ≡ dueAt (stateIn ws rs) k
   due-now = due-byte ws qs rs k (w .ahead k (le-refl k))
@@ -270,7 +256,7 @@ module _ (ws rs : List ℕ) (n b k left : ℕ) (qs : List ℕ) (w : Sweeping ws 
   as-long = sym (sweep-length ws (n - k) k left qs) ∙ sym (ap length (w .bytes)) ∙ sweep-length ws n 0 b rs
 
   -- a turn that has moves enough
-  pub sweep-goes-on : (m : ℕ) → m ≡ dueAt (stateIn ws qs) k → m ≤ left → Sweeping ws rs n b (k + 1) (left - m) (movesBytes ws m k qs)
+  pub sweep-goes-on : (m : ℕ) → m ≡ dueAt (stateIn ws qs) k → m ≤ left → Underway ws rs n b (k + 1) (left - m) (movesBytes ws m k qs)
   sweep-goes-on m e l =
       let c : n - k - 1 ≡ n - (k + 1) = omega arith in
       record {
@@ -297,7 +283,7 @@ module _ (ws rs : List ℕ) (n b k left : ℕ) (qs : List ℕ) (w : Sweeping ws 
       omega (arith, w .made, due-now, sum-more k f, all)
 
 -- every queue is passed
-pub sweep-ends : (ws rs : List ℕ) (n b k left : ℕ) (qs : List ℕ) → Sweeping ws rs n b k left qs → n ≤ k
+pub sweep-ends : (ws rs : List ℕ) (n b k left : ℕ) (qs : List ℕ) → Underway ws rs n b k left qs → n ≤ k
     → (qs ≡ sweepBytes ws n 0 b rs) × (b ≡ left + sumBelow n (dueAt (stateIn ws rs)))
 sweep-ends ws rs n b k left qs w h =
     let e : k ≡ n = omega (arith, w .below) in (
@@ -305,24 +291,23 @@ sweep-ends ws rs n b k left qs w h =
       w .made ∙ ap (λ (i : ℕ). left + sumBelow i (dueAt (stateIn ws rs))) e,
     )
 
-pub remaining-sum : (s : State) → sumBelow queues (dueAt s) ≡ remaining s
-unfolding remaining
-remaining-sum s = refl
-
--- a sweep of all queues leaves what its budget did not reach
-pub remaining-bytes : (ws rs : List ℕ) (b : ℕ) → queues ≤ length rs
-    → remaining (stateIn ws (sweepBytes ws queues 0 b rs)) + min b (remaining (stateIn ws rs)) ≡ remaining (stateIn ws rs)
-remaining-bytes ws rs b h =
-    rw (read-sweep ws queues 0 b rs (omega arith), sym (all-due (stateIn ws rs)))
-    (remaining-sweep queues 0 b (stateIn ws rs) (omega arith) ∙ sym (all-due (stateIn ws rs)))
-
--- moves remain after it exactly where the budget is below those before it
-pub sweep-more : (ws rs qs : List ℕ) (b : ℕ) → queues ≤ length rs → qs ≡ sweepBytes ws queues 0 b rs
-    → not (eqb (remaining (stateIn ws qs)) 0) ≡ ltb b (remaining (stateIn ws rs))
-sweep-more ws rs qs b h e =
-    ap (λ (x : List ℕ). not (eqb (remaining (stateIn ws x)) 0)) e
-    ∙ go (remaining (stateIn ws (sweepBytes ws queues 0 b rs))) (remaining (stateIn ws rs)) (remaining-bytes ws rs b h) (ltb b (remaining (stateIn ws rs))) refl
+-- a whole sweep, by the bytes that it leaves, its number, and whether more moves remain than it makes
+pub swept-by : (ws rs qs : List ℕ) (budget most : ℕ) (r : Swept) → queues ≤ length rs → most ≡ min budget mostMoves
+    → qs ≡ sweepBytes ws queues 0 most rs → r .used ≡ min most (remaining (stateIn ws rs)) → r .more ≡ ltb most (remaining (stateIn ws rs))
+    → Sweeping budget ws rs qs r
+unfolding sweep movesUsed
+swept-by ws rs qs budget most r h m b u o =
+    let s = stateIn ws rs in
+    let d : qs ≡ sweepBytes ws queues 0 (min budget mostMoves) rs = b ∙ ap (λ (i : ℕ). sweepBytes ws queues 0 i rs) m in
+    let e : stateIn ws qs ≡ sweep budget s = ap (stateIn ws) d ∙ read-sweep ws queues 0 (min budget mostMoves) rs (omega arith) in
+    let left : remaining (stateIn ws qs) + min most (remaining s) ≡ remaining s = rw (e, m) (remaining-swept budget s) in
+    record {
+      sweep =
+          sweeping budget s (stateIn ws qs) (r .used) (r .more) e (u ∙ ap (λ (i : ℕ). min i (remaining s)) m)
+          (o ∙ sym (go (remaining (stateIn ws qs)) (remaining s) left (ltb most (remaining s)) refl));
+      drivers = d;
+    }
   where
-    go : (x r : ℕ) → x + min b r ≡ r → (t : Bool) → ltb b r ≡ t → not (eqb x 0) ≡ t
-    go x r f true l = let below : b < r = ltb-true b r l in ap not (ne-eqb x 0 (λ z. omega arith))
-    go x r f false l = let past : r ≤ b = ltb-false b r l in ap not (eq-eqb x 0 (omega arith))
+    go : (x r : ℕ) → x + min most r ≡ r → (t : Bool) → ltb most r ≡ t → not (eqb x 0) ≡ t
+    go x r f true l = let below : most < r = ltb-true most r l in ap not (ne-eqb x 0 (λ z. omega arith))
+    go x r f false l = let past : r ≤ most = ltb-false most r l in ap not (eq-eqb x 0 (omega arith))

@@ -3,8 +3,11 @@
 use Prim.Native.Nat.{ℕ, zero, suc, _-_, min}
 use mathlib.Core.List.{List}
 use mathlib.Core.Path.{_≡_}
+use mathlib.Core.Bool.{cond}
+use lib.Dec.{eqb}
 use lib.ListN.{set}
 use denote.Ref.{RefT, now}
+use Rattle.rules.specs.declared.Driver.{Driver}
 use Rattle.rules.specs.declared.Driver.the-variants.{Unbound, Host, Passthrough}
 use Rattle.rules.specs.declared.Moved.{Moved}
 use Rattle.rules.specs.declared.Moved.the-variants.{Idle, Released, BoundHost, BoundPassthrough}
@@ -29,6 +32,10 @@ moveBytes ws n qs = bytesAfter (moveAnswer n (stateIn ws qs)) n qs
 unfoldable pub movesBytes : List ℕ → ℕ → ℕ → List ℕ → List ℕ
 movesBytes ws zero n qs = qs
 movesBytes ws (suc m) n qs = movesBytes ws m n (moveBytes ws n qs)
+
+-- the bytes after all moves that were due of queue n: its target, where any was due
+abbrev pub finishedBytes : ℕ → Driver → ℕ → List ℕ → List ℕ
+finishedBytes due t n qs = cond (eqb due 0) qs (set qs n (byteOf t))
 
 -- the bytes after a sweep of the n queues from k on with b moves to make
 unfoldable pub sweepBytes : List ℕ → ℕ → ℕ → ℕ → List ℕ → List ℕ

@@ -8,14 +8,15 @@ use record::Words;
 use rules::Driver;
 use rules::Moved;
 ghost use mathlib.Core.Path.{_≡_};
-ghost use Prim.Native.Nat.{_+_, _*_, _<_, _≤_, min};
-ghost use mathlib.Core.Bool.{cond, not, _&&_};
-ghost use lib.Dec.{eqb};
-ghost use lib.ListN.{set};
-ghost use Rattle.rules.specs.Queues.{targetOf, moveAnswer, remaining, moved, due, dueAt, movesUsed, mostMoves};
+ghost use Prim.Native.Nat.{_<_, _≤_};
+ghost use mathlib.Core.Bool.{_&&_};
+ghost use Rattle.rules.specs.Queues.{targetOf, moved, due, dueAt};
 ghost use Rattle.rules.specs.State.{queues, apqn};
-ghost use Rattle.record.specs.Layout.{stateIn, hostIn, configIn, byteOf};
-ghost use Rattle.bind.specs.Moves.{movesBytes, Moves, Sweeps, Remains};
+ghost use Rattle.record.specs.Lent.{host, config, state};
+ghost use Rattle.bind.specs.Moves.{movesBytes, finishedBytes, Moves, Sweeps, Remains};
+
+// A larger budget is taken as this one, which moves every queue twice.
+const MOST_MOVES: u32 = 131072;
 
 // What a sweep reports: the moves it made, and whether any remain.
 pub struct Swept {
@@ -31,17 +32,15 @@ struct Need {
 
 // The driver that a queue should have.
 pub fn target(words: &Words, adapter: Apid, domain: Apqi) -> Driver
-    ensures { λ r. ⌜ r ≡ targetOf (hostIn (now (words .entry))) (configIn (now (words .entry))) (adapter .0 * 256 + domain .0) ⌝ }
+    ensures { λ r. ⌜ r ≡ targetOf (host (words .entry)) (config (words .entry)) (apqn adapter domain) ⌝ }
 {
-    let apid = adapter.0;
-    let apqi = domain.0;
-    if !record::configured_adapters(words).has(apid) {
+    if !record::configured_adapters(words).has_adapter(adapter) {
         return Driver::Unbound;
     }
-    if !record::configured_domains(words).has(apqi) {
+    if !record::configured_domains(words).has_domain(domain) {
         return Driver::Unbound;
     }
-    if reserved(words, apid, apqi) {
+    if reserved(words, adapter, domain) {
         return Driver::Host;
     }
     if record::hardware_type(words, adapter) < 10 {
@@ -50,20 +49,21 @@ pub fn target(words: &Words, adapter: Apid, domain: Apqi) -> Driver
     Driver::Passthrough
 }
 
-// Whether adapter n and domain m are both in the host's masks.
-fn reserved(words: &Words, adapter: u8, domain: u8) -> bool
-    ensures { λ r. ⌜ r ≡ (hostIn (now (words .entry)) .apmask adapter && hostIn (now (words .entry)) .aqmask domain) ⌝ }
+// Whether the adapter and the domain are both in the host's masks.
+fn reserved(words: &Words, adapter: Apid, domain: Apqi) -> bool
+    ensures { λ r. ⌜ r ≡ (host (words .entry) .apmask (adapter .0) && host (words .entry) .aqmask (domain .0)) ⌝ }
 {
-    if !record::apmask(words).has(adapter) {
+    if !record::apmask(words).has_adapter(adapter) {
         return false;
     }
-    record::aqmask(words).has(domain)
+    record::aqmask(words).has_domain(domain)
 }
 
 // Moves one queue a step towards its target. It is never refused.
 pub fn move_queue(words: &Words, drivers: &mut Drivers, adapter: Apid, domain: Apqi) -> Moved
     ensures { λ r. ⌜ Moves (apqn adapter domain) (words .entry) (drivers .entry) (drivers .exit) r ⌝ }
 {
+    record::hold_drivers(drivers);
     let m = moved_by(
         record::driver(drivers, adapter, domain),
         target(words, adapter, domain),
@@ -127,20 +127,20 @@ fn due_by(driver: Driver, target: Driver) -> u32
     }
 }
 
-// The moves that queue k still needs.
+// The moves that the queue still needs.
 fn due_at(words: &Words, drivers: &Drivers, queue: usize) -> u32
-    requires { ⌜ queue < 65536 ⌝ }
-    ensures { λ r. ⌜ r ≡ dueAt (stateIn (now (words .entry)) (now (drivers .entry))) queue ⌝ }
+    requires { ⌜ queue < queues ⌝ }
+    ensures { λ r. ⌜ r ≡ dueAt (state (words .entry) (drivers .entry)) queue ⌝ }
 {
     let need = need_at(words, drivers, queue);
     need.due
 }
 
-// What queue k needs. Its target is computed once.
+// What the queue needs. Its target is computed once.
 fn need_at(words: &Words, drivers: &Drivers, queue: usize) -> Need
-    requires { ⌜ queue < 65536 ⌝ }
-    ensures due { λ r. ⌜ r .due ≡ dueAt (stateIn (now (words .entry)) (now (drivers .entry))) queue ⌝ }
-    ensures target { λ r. ⌜ r .target ≡ targetOf (hostIn (now (words .entry))) (configIn (now (words .entry))) queue ⌝ }
+    requires { ⌜ queue < queues ⌝ }
+    ensures due { λ r. ⌜ r .due ≡ dueAt (state (words .entry) (drivers .entry)) queue ⌝ }
+    ensures target { λ r. ⌜ r .target ≡ targetOf (host (words .entry)) (config (words .entry)) queue ⌝ }
 {
     let a = Apid((queue / 256 % 256) as u8);
     let d = Apqi((queue % 256) as u8);
@@ -155,7 +155,7 @@ pub fn remaining(words: &Words, drivers: &Drivers) -> u32
 {
     let mut sum: u32 = 0;
     let mut queue = 0usize;
-    while queue < 65536 {
+    while queue < record::QUEUES {
         sum += due_at(words, drivers, queue);
         queue += 1;
     }
@@ -167,10 +167,14 @@ pub fn sweep(words: &Words, drivers: &mut Drivers, budget: u32) -> Swept
     ensures { λ r. ⌜ Sweeps budget (words .entry) (drivers .entry) (drivers .exit) r ⌝ }
 {
     record::hold_drivers(drivers);
-    let most = if budget < 131072 { budget } else { 131072 };
+    let most = if budget < MOST_MOVES {
+        budget
+    } else {
+        MOST_MOVES
+    };
     let mut left = most;
     let mut queue: usize = 0;
-    while queue < 65536 {
+    while queue < record::QUEUES {
         let need = need_at(words, drivers, queue);
         let n = need.due;
         let t = need.target;
@@ -192,9 +196,9 @@ pub fn sweep(words: &Words, drivers: &mut Drivers, budget: u32) -> Swept
     }
 }
 
-// Makes n moves of queue k.
+// Makes some moves of the queue.
 fn settle(words: &Words, drivers: &mut Drivers, queue: usize, moves: u32)
-    requires { ⌜ (queue < 65536) × (moves ≤ 2) ⌝ }
+    requires { ⌜ (queue < queues) × (moves ≤ 2) ⌝ }
     ensures { λ r. ⌜ now (drivers .exit) ≡ movesBytes (now (words .entry)) moves queue (now (drivers .entry)) ⌝ }
 {
     let a = Apid((queue / 256 % 256) as u8);
@@ -209,10 +213,10 @@ fn settle(words: &Words, drivers: &mut Drivers, queue: usize, moves: u32)
     move_queue(words, drivers, a, d);
 }
 
-// Makes all n moves that queue k is from its target t: the driver after the last is the target.
+// Makes all moves that are due of the queue: the driver after the last is the target.
 fn finish(drivers: &mut Drivers, queue: usize, due: u32, target: Driver)
-    requires { ⌜ queue < 65536 ⌝ }
-    ensures { λ r. ⌜ now (drivers .exit) ≡ cond (eqb due 0) (now (drivers .entry)) (set (now (drivers .entry)) queue (byteOf target)) ⌝ }
+    requires { ⌜ queue < queues ⌝ }
+    ensures { λ r. ⌜ now (drivers .exit) ≡ finishedBytes due target queue (now (drivers .entry)) ⌝ }
 {
     let adapter = Apid((queue / 256 % 256) as u8);
     let domain = Apqi((queue % 256) as u8);

@@ -27,6 +27,7 @@ use Rattle.rules.specs.Commands as Commands
 use Rattle.rules.specs.Commands.{errnoOf, stateAfter, slotOf, freeSlot, sameId, firstFrom, withDevice, withHost, withConfig, onDevice, reading, newDevice, withOpen, numbersOf, withNumbers, limitOf, single, paired, adding, assignAt, setHost, stored, beyondLimits, product, assigned, assignedElsewhere}
 use Rattle.rules.proofs.First.{first-le, first-holds, first-before}
 use Rattle.rules.proofs.Products.{queue-apid, queue-apqi, queue-below}
+use Rattle.rules.proofs.Refusals.{same-numbers}
 use Rattle.model.specs.Steps.{Command, create, remove, openIt, closeIt, assign, unassign, setApmask, setAqmask, configure, Step, command, move, rule, after, afterAll, answers, commandsOf, queueOf}
 use Rattle.model.specs.Model.{Model, Check, Reply, most, somePair, named, known, room, lowest, slot, its, holds, anotherHolds, someHolds, reserved, has, new, highest, bitAbove, put, bare, nobody, marked, turned, turn, masked, given, judged, withText, reply, start, replies, kept}
 
@@ -354,12 +355,6 @@ set-already n b e = fun-ext (λ i. go i (eqb i n) refl)
     go : (i : ℕ) (x : Bool) → eqb i n ≡ x → cond x true (b i) ≡ b i
     go i true h = sym (ap b (eqb-true i n h) ∙ e)
     go i false h = refl
-
-same-numbers : (k : Kind) (w : Device) → withNumbers k (numbersOf k w) w ≡ w
-unfolding withNumbers numbersOf
-same-numbers Adapter w = refl
-same-numbers Domain w = refl
-same-numbers Control w = refl
 
 -- a device put where it is
 put-back : (x : ℕ) (w : Device) (s : State) → w ≡ s .device x → put x w (erase s) ≡ erase s

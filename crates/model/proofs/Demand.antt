@@ -9,7 +9,7 @@ use Rattle.rules.specs.State.{Limits, State, fresh, slots, queues}
 use Rattle.rules.specs.Queues.{passed, usable}
 use Rattle.model.specs.Steps.{Step, commandsOf, afterAll, answers}
 use Rattle.model.specs.Model.{Model, start, replies, kept}
-use Rattle.model.specs.Demand3.{Kept, Settled, Follows, Demand3}
+use Rattle.model.specs.Demand3.{Kept, Follows, Demand3}
 use Rattle.model.proofs.Agreement.{erase, all-answers, all-kept, erase-fresh}
 use Rattle.model.proofs.Exclusion.{Exclusive, after-all, fresh-exclusive, usable-product, usable-open, usable-passed}
 use Rattle.model.proofs.Settling.{follows, due-move, idle-move}

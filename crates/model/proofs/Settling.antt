@@ -12,28 +12,16 @@ use Rattle.rules.specs.declared.Driver.the-variants.{Unbound, Host, Passthrough
 use Rattle.rules.specs.declared.Moved.{Moved}
 use Rattle.rules.specs.declared.Moved.the-variants.{Idle, Released, BoundHost, BoundPassthrough}
 use Rattle.rules.specs.State.{Device, State, slots, queues, inProduct}
-use Rattle.rules.specs.Queues.{targetOf, target, moved, moveAnswer, move, remaining, reserved, configured, passed, guestDomains, guestAdapters, guestControls}
+use Rattle.rules.specs.Queues.{targetOf, target, moved, moveAnswer, move, remaining, reserved, configured, passed, guestDomains, guestAdapters, guestControls, Settled}
 use Rattle.rules.proofs.Products.{queue-apid, queue-below, in-product}
-use Rattle.rules.proofs.Moves.{spent, remaining-move}
-use Rattle.model.specs.Demand3.{Settled, Follows}
+use Rattle.rules.proofs.Moves.{spent, idle-spent, busy-spent, remaining-move}
+use Rattle.model.specs.Demand3.{Follows}
 use Rattle.model.specs.Model as Model
 use Rattle.model.proofs.Agreement.{erase}
 
--- an answer as a number, to tell idle from the others
-idle-spent : (m : Moved) → m ≡ Idle → spent m ≡ 0
-unfolding spent
-idle-spent m e = ap spent e
-
-busy-spent : (m : Moved) → (m ≡ Idle → ⊥) → spent m ≡ 1
-unfolding spent
-busy-spent Idle h = absurd (h refl)
-busy-spent Released h = refl
-busy-spent BoundHost h = refl
-busy-spent BoundPassthrough h = refl
-
+-- an answer that stands for a move is not idle
 busy : (m : Moved) → spent m ≡ 1 → m ≡ Idle → ⊥
-unfolding spent
-busy m b e = let z : spent m ≡ 0 = ap spent e in omega arith
+busy m b e = omega (arith, idle-spent m e)
 
 -- a move is idle only where the driver is the target
 idle-target : (d t : Driver) → moved d t ≡ Idle → d ≡ t

@@ -1,104 +1,87 @@
--- A sweep leaves what its moves leave, their number is the one that it reports, and none of them is idle.
+-- Lists of steps one after another, and a sweep as a list of steps: it leaves what its moves leave, and has no commands and no answers.
 -- Assumes nothing.
 use Prim.Native.Nat.{ℕ, zero, suc, _+_, _-_, _*_, _/_, _%_, _≤_, _<_, min}
-use native.Mathlib.Nat.{add-zero, div-add-mod', div-lt-iff-lt-mul, mod-lt, mod-eq-of-lt}
+use native.Mathlib.Nat.{div-add-mod', div-lt-iff-lt-mul, mod-lt, mod-eq-of-lt}
 use native.Mathlib.Omega.{arith}
-use mathlib.Core.List.{List, [], _∷_, _++_}
-use mathlib.Core.Path.{_≡_, refl, sym, ap, ap₂, subst, _∙_}
+use mathlib.Core.List.{List, [], _∷_, _++_, map}
+use mathlib.Core.Path.{_≡_, refl, ap, ap₂, _∙_}
 use lib.Dec.{lit<}
-use lib.ListN.{length, replicate, length-append, length-replicate}
-use Rattle.rules.specs.declared.Moved.{Moved}
-use Rattle.rules.specs.declared.Moved.the-variants.{Idle}
-use Rattle.rules.specs.State.{State, queues}
-use Rattle.rules.specs.Queues.{dueAt, moves, moveAnswer, mostMoves, sweepFrom, sweep, remaining, movesUsed}
+use lib.ListN.{replicate}
+use Rattle.rules.specs.State.{State, queues, apid, apqi}
+use Rattle.rules.specs.Queues.{dueAt, moves, mostMoves}
 use Rattle.rules.specs.Queues as Queues
-use Rattle.rules.proofs.Moves.{spent, spent-at, due-here, sumFrom, sum-from-cong, moves-other, all-due}
-use Rattle.model.specs.Steps.{Step, command, move, queueOf, after, afterAll}
-use Rattle.model.specs.Sweeps.{sweepStepsFrom, sweepSteps, AllDue}
+use Rattle.rules.specs.Commands.{errnoOf, stateAfter}
+use Rattle.rules.specs.Sweeps.{sweptFrom, swept, moveEach}
+use Rattle.model.specs.Steps.{Step, Command, command, move, queueOf, rule, after, afterAll, answers, commandsOf}
+use Rattle.model.specs.Sweeps.{sweepSteps}
 
--- the queue of a number below 65,536
-queue-same : (k : ℕ) → k < queues → queueOf (k / 256) (k % 256) ≡ k
-unfolding queueOf
-queue-same k h =
-    ap₂ (λ (a d : ℕ). a * 256 + d) (mod-eq-of-lt (div-lt-iff-lt-mul (lit< tt) .1 h)) (mod-eq-of-lt (mod-lt k (lit< tt)))
-    ∙ div-add-mod' k 256
+-- ---- one list after another
 
--- one list after another
-after-append : (xs ys : List Step) (s : State) → afterAll (xs ++ ys) s ≡ afterAll ys (afterAll xs s)
+pub after-append : (xs ys : List Step) (s : State) → afterAll (xs ++ ys) s ≡ afterAll ys (afterAll xs s)
 unfolding afterAll
 after-append [] ys s = refl
 after-append (x ∷ xs) ys s = after-append xs ys (after x s)
 
--- the same move again and again
-after-same : (m k : ℕ) (s : State) → k < queues → afterAll (replicate m (move (k / 256) (k % 256))) s ≡ moves m k s
-unfolding afterAll after moves
-after-same zero k s h = refl
-after-same (suc m) k s h =
-    ap (λ (q : ℕ). afterAll (replicate m (move (k / 256) (k % 256))) (Queues.move q s)) (queue-same k h) ∙ after-same m k (Queues.move k s) h
+pub answers-append : (xs ys : List Step) (s : State) → answers (xs ++ ys) s ≡ answers xs s ++ answers ys (afterAll xs s)
+unfolding answers afterAll after
+answers-append [] ys s = refl
+answers-append (command c ∷ xs) ys s = ap (λ (l : List ℕ). errnoOf (rule c s) ∷ l) (answers-append xs ys (stateAfter s (rule c s)))
+answers-append (move a d ∷ xs) ys s = answers-append xs ys (Queues.move (queueOf a d) s)
 
--- what the moves of a sweep leave is what the sweep leaves
-sweep-from : (n k b : ℕ) (s : State) → k + n ≤ queues → afterAll (sweepStepsFrom n k b s) s ≡ sweepFrom n k b s
-unfolding sweepStepsFrom sweepFrom afterAll
-sweep-from zero k b s h = refl
-sweep-from (suc n) k b s h =
+pub commands-append : (xs ys : List Step) → commandsOf (xs ++ ys) ≡ commandsOf xs ++ commandsOf ys
+unfolding commandsOf
+commands-append [] ys = refl
+commands-append (command c ∷ xs) ys = ap (λ (l : List Command). c ∷ l) (commands-append xs ys)
+commands-append (move a d ∷ xs) ys = commands-append xs ys
+
+-- ---- a sweep
+
+-- the move of a queue
+abbrev step : ℕ → Step
+step q = move (apid q) (apqi q)
+
+-- the queue of a number below 65,536
+queue-same : (q : ℕ) → q < queues → queueOf (apid q) (apqi q) ≡ q
+unfolding queueOf
+queue-same q h =
+    ap₂ (λ (a d : ℕ). a * 256 + d) (mod-eq-of-lt (div-lt-iff-lt-mul (lit< tt) .1 h)) (mod-eq-of-lt (mod-lt q (lit< tt)))
+    ∙ div-add-mod' q 256
+
+-- the same move again and again, before others
+again : (m q : ℕ) (qs : List ℕ) → q < queues → ((s : State) → afterAll (map step qs) s ≡ moveEach qs s)
+    → (s : State) → afterAll (map step (replicate m q ++ qs)) s ≡ moveEach (replicate m q ++ qs) s
+unfolding afterAll after moveEach
+again zero q qs h rest s = rest s
+again (suc m) q qs h rest s =
+    ap (λ (k : ℕ). afterAll (map step (replicate m q ++ qs)) (Queues.move k s)) (queue-same q h) ∙ again m q qs h rest (Queues.move q s)
+
+steps-from : (n k b : ℕ) (s : State) → k + n ≤ queues → (t : State) → afterAll (map step (sweptFrom n k b s)) t ≡ moveEach (sweptFrom n k b s) t
+unfolding sweptFrom afterAll moveEach
+steps-from zero k b s h t = refl
+steps-from (suc n) k b s h t =
     let m = min b (dueAt s k) in
-    after-append (replicate m (move (k / 256) (k % 256))) (sweepStepsFrom n (suc k) (b - m) (moves m k s)) s
-    ∙ ap (afterAll (sweepStepsFrom n (suc k) (b - m) (moves m k s))) (after-same m k s (omega arith))
-    ∙ sweep-from n (suc k) (b - m) (moves m k s) (omega arith)
+    again m k (sweptFrom n (suc k) (b - m) (moves m k s)) (omega arith) (steps-from n (suc k) (b - m) (moves m k s) (omega arith)) t
 
-pub sweep-steps : (b : ℕ) (s : State) → afterAll (sweepSteps b s) s ≡ sweep b s
-unfolding sweepSteps sweep
-sweep-steps b s = sweep-from queues 0 (min b mostMoves) s (omega arith)
+-- what the steps of a sweep leave is what its moves leave
+pub sweep-steps : (b : ℕ) (s : State) → afterAll (sweepSteps b s) s ≡ moveEach (swept b s) s
+unfolding sweepSteps swept
+sweep-steps b s = steps-from queues 0 (min b mostMoves) s (omega arith) s
 
--- how many moves a sweep makes
-number-from : (n k b : ℕ) (s : State) → length (sweepStepsFrom n k b s) ≡ min b (sumFrom n k (dueAt s))
-unfolding sweepStepsFrom sumFrom
-number-from zero k b s = omega arith
-number-from (suc n) k b s =
-    let m = min b (dueAt s k) in
-    let rest : sumFrom n (suc k) (dueAt (moves m k s)) ≡ sumFrom n (suc k) (dueAt s) =
-    sum-from-cong n (suc k) (dueAt (moves m k s)) (dueAt s) (λ j l. moves-other m k j s (λ e. omega arith))
-    in
-    let here : length (replicate m (move (k / 256) (k % 256))) ≡ m = length-replicate m (move (k / 256) (k % 256)) in
-    let all : length (replicate m (move (k / 256) (k % 256)) ++ sweepStepsFrom n (suc k) (b - m) (moves m k s)) ≡ length (replicate m (move (k / 256) (k % 256))) + length (sweepStepsFrom n (suc k) (b - m) (moves m k s)) =
-    length-append (replicate m (move (k / 256) (k % 256))) (sweepStepsFrom n (suc k) (b - m) (moves m k s))
-    in
-    omega (arith, all, here, rest, number-from n (suc k) (b - m) (moves m k s))
+-- moves are no commands, and have no answers
+no-commands : (qs : List ℕ) → commandsOf (map step qs) ≡ []
+unfolding commandsOf
+no-commands [] = refl
+no-commands (q ∷ qs) = no-commands qs
 
-pub sweep-number : (b : ℕ) (s : State) → length (sweepSteps b s) ≡ movesUsed b s
-unfolding sweepSteps movesUsed
-sweep-number b s = number-from queues 0 (min b mostMoves) s ∙ ap (min (min b mostMoves)) (all-due s)
+no-answers : (qs : List ℕ) (s : State) → answers (map step qs) s ≡ []
+unfolding answers
+no-answers [] s = refl
+no-answers (q ∷ qs) s = no-answers qs (Queues.move (queueOf (apid q) (apqi q)) s)
 
--- none of them is idle
-due-append : (xs ys : List Step) (s : State) → AllDue xs s → AllDue ys (afterAll xs s) → AllDue (xs ++ ys) s
-unfolding AllDue afterAll after
-due-append [] ys s a b = b
-due-append (command c ∷ xs) ys s a b = absurd a
-due-append (move x d ∷ xs) ys s a b = (a .0, due-append xs ys (Queues.move (queueOf x d) s) (a .1) b)
-
-not-idle : (q : ℕ) (s : State) → 0 < dueAt s q → moveAnswer q s ≡ Idle → ⊥
-unfolding spent
-not-idle q s h e = let z : spent (moveAnswer q s) ≡ 0 = ap spent e in omega (arith, spent-at q s)
-
-due-same : (m k : ℕ) (s : State) → k < queues → m ≤ dueAt s k → AllDue (replicate m (move (k / 256) (k % 256))) s
-unfolding AllDue
-due-same zero k s h l = tt
-due-same (suc m) k s h l =
-    let more : m ≤ dueAt (Queues.move k s) k = omega (arith, due-here k s, spent-at k s) in (
-      subst (λ (q : ℕ). moveAnswer q s ≡ Idle → ⊥) (sym (queue-same k h)) (not-idle k s (omega arith)),
-      subst (λ (q : ℕ). AllDue (replicate m (move (k / 256) (k % 256))) (Queues.move q s)) (sym (queue-same k h)) (due-same m k (Queues.move k s) h more),
-    )
-
-due-from : (n k b : ℕ) (s : State) → k + n ≤ queues → AllDue (sweepStepsFrom n k b s) s
-unfolding sweepStepsFrom AllDue
-due-from zero k b s h = tt
-due-from (suc n) k b s h =
-    let m = min b (dueAt s k) in
-    due-append (replicate m (move (k / 256) (k % 256))) (sweepStepsFrom n (suc k) (b - m) (moves m k s)) s
-    (due-same m k s (omega arith) (omega arith))
-    (subst (λ (t : State). AllDue (sweepStepsFrom n (suc k) (b - m) (moves m k s)) t) (sym (after-same m k s (omega arith)))
-    (due-from n (suc k) (b - m) (moves m k s) (omega arith)))
-
-pub sweep-due : (b : ℕ) (s : State) → AllDue (sweepSteps b s) s
+pub commands-none : (b : ℕ) (s : State) → commandsOf (sweepSteps b s) ≡ []
 unfolding sweepSteps
-sweep-due b s = due-from queues 0 (min b mostMoves) s (omega arith)
+commands-none b s = no-commands (swept b s)
+
+pub answers-moves : (b : ℕ) (s t : State) → answers (sweepSteps b s) t ≡ []
+unfolding sweepSteps
+answers-moves b s t = no-answers (swept b s) t

@@ -11,7 +11,7 @@ use Rattle.rules.specs.declared.Moved.{Moved}
 use Rattle.rules.specs.declared.Moved.the-variants.{Idle}
 use Rattle.rules.specs.State.{Limits, State, fresh, slots, queues}
 use Rattle.rules.specs.Queues as Queues
-use Rattle.rules.specs.Queues.{remaining, moveAnswer, usable}
+use Rattle.rules.specs.Queues.{remaining, moveAnswer, usable, Settled}
 use Rattle.model.specs.Steps.{Step, commandsOf, afterAll, answers}
 use Rattle.model.specs.Model.{Model, start, replies, kept}
 use Rattle.model.specs.Model as Model
@@ -27,10 +27,6 @@ pub record Kept (s : State) (m : Model) : Type 0 where
   pub controls : s .config .controls ≡ m .controls
   pub types : s .config .types ≡ m .types
   pub device : s .device ≡ m .device
-
--- no move is due: a move of each of the queues would answer idle
-unfoldable pub Settled : State → Type 0
-Settled s = (q : ℕ) → q < queues → moveAnswer q s ≡ Idle
 
 -- every driver and every device's guest masks are the model's
 pub record Follows (s : State) (m : Model) : Type 0 where

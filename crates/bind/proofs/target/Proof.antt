@@ -6,22 +6,16 @@ use mathlib.Core.Path.{_≡_, sym, ap, _∙_}
 use mathlib.Core.Bool.{cond, _&&_}
 use denote.Ref.{now}
 use lib.Dec.{leb}
-use borrow.Author.Tests.{le-leb, lt-leb}
+use borrow.Author.Tests.{le-leb, lt-leb, not-true, not-false}
 use Rattle.mask.specs.Bits.{Bits}
 use Rattle.rules.specs.declared.Driver.{Driver}
 use Rattle.rules.specs.declared.Driver.the-variants.{Unbound, Host, Passthrough}
 use Rattle.rules.specs.Queues.{targetOf}
 use Rattle.record.specs.Layout.{hostIn, configIn}
-use Rattle.bind.proofs.Laws.{target-by, not-true, not-false}
+use Rattle.bind.proofs.Laws.{target-by}
 use borrow.Author.Needs.{needs}
 use Rattle.bind.proofs.target.Statement.{statement}
 use Rattle.bind.proofs.target.Tie as tie
-
-configured-adapters-requires : tie.Need-configured-adapters-requires
-configured-adapters-requires c κs = search needs
-
-has-requires : tie.Need-has-requires
-has-requires c κs = search needs
 
 -- what is to be returned
 abbrev wanted : tie.Start → Driver
@@ -37,12 +31,12 @@ parts : (c : tie.Start) → wanted c
 parts c = target-by (hostIn (now (c .args .words))) (configIn (now (c .args .words))) (c .args .adapter .0) (c .args .domain .0) (omega arith)
 
 -- the adapter's and the domain's bit
-adapter : (c : tie.After-has) → c .has .result ≡ configIn (now (c .before .before .args .words)) .adapters (c .before .before .args .adapter .0)
-adapter c = c .has .ensures ∙ ap (λ (f : Bits). f (c .before .before .args .adapter .0)) (c .before .configured-adapters .ensures)
+adapter : (c : tie.After-has-adapter) → c .has-adapter .result ≡ configIn (now (c .before .before .args .words)) .adapters (c .before .before .args .adapter .0)
+adapter c = c .has-adapter .ensures ∙ ap (λ (f : Bits). f (c .before .before .args .adapter .0)) (c .before .configured-adapters .ensures)
 
-domain : (c : tie.After-has2)
-    → c .has2 .result ≡ configIn (now (c .before .before .before .before .before .args .words)) .domains (c .before .before .before .before .before .args .domain .0)
-domain c = c .has2 .ensures ∙ ap (λ (f : Bits). f (c .before .before .before .before .before .args .domain .0)) (c .before .configured-domains .ensures)
+domain : (c : tie.After-has-domain)
+    → c .has-domain .result ≡ configIn (now (c .before .before .before .before .before .args .words)) .domains (c .before .before .before .before .before .args .domain .0)
+domain c = c .has-domain .ensures ∙ ap (λ (f : Bits). f (c .before .before .before .before .before .args .domain .0)) (c .before .configured-domains .ensures)
 
 -- past the tests of the configuration
 configured : (c : tie.After-reserved) → wanted (c .before .before .before .before .before .before .before)
@@ -50,36 +44,24 @@ configured : (c : tie.After-reserved) → wanted (c .before .before .before .bef
 configured c =
     parts (c .before .before .before .before .before .before .before)
     ∙ rw (
-      sym (adapter (c .before .before .before .before .before)) ∙ not-false (c .before .before .before .before .before .has .result) (c .before .before .before .before .if1 .left),
-      sym (domain (c .before .before)) ∙ not-false (c .before .before .has2 .result) (c .before .if2 .left),
+      sym (adapter (c .before .before .before .before .before)) ∙ not-false (c .before .before .before .before .before .has-adapter .result) (c .before .before .before .before .if1 .left),
+      sym (domain (c .before .before)) ∙ not-false (c .before .before .has-domain .result) (c .before .if2 .left),
       c .reserved .ensures,
     )
 
 returns : tie.Need-returns
-returns c = rw (parts (c .before .before .before), sym (adapter (c .before)) ∙ not-true (c .before .has .result) (c .if1 .taken))
-
-configured-domains-requires : tie.Need-configured-domains-requires
-configured-domains-requires c κs = search needs
-
-has-requires-2 : tie.Need-has-requires-2
-has-requires-2 c κs = search needs
+returns c = rw (parts (c .before .before .before), sym (adapter (c .before)) ∙ not-true (c .before .has-adapter .result) (c .if1 .taken))
 
 returns-2 : tie.Need-returns-2
 returns-2 c =
     rw (
       parts (c .before .before .before .before .before .before),
-      sym (adapter (c .before .before .before .before)) ∙ not-false (c .before .before .before .before .has .result) (c .before .before .before .if1 .left),
-      sym (domain (c .before)) ∙ not-true (c .before .has2 .result) (c .if2 .taken),
+      sym (adapter (c .before .before .before .before)) ∙ not-false (c .before .before .before .before .has-adapter .result) (c .before .before .before .if1 .left),
+      sym (domain (c .before)) ∙ not-true (c .before .has-domain .result) (c .if2 .taken),
     )
-
-reserved-requires : tie.Need-reserved-requires
-reserved-requires c κs = search needs
 
 returns-3 : tie.Need-returns-3
 returns-3 c = sym (configured (c .before) ∙ rw (c .if3 .taken))
-
-hardware-type-requires : tie.Need-hardware-type-requires
-hardware-type-requires c κs = search needs
 
 returns-4 : tie.Need-returns-4
 returns-4 c =
@@ -95,14 +77,14 @@ pub target-spec : {M : Type 1} → statement M
 target-spec =
     tie.close
     (tie.spec
-    configured-adapters-requires
-    has-requires
+    (λ c κs. search needs)
+    (λ c κs. search needs)
     returns
-    configured-domains-requires
-    has-requires-2
+    (λ c κs. search needs)
+    (λ c κs. search needs)
     returns-2
-    reserved-requires
+    (λ c κs. search needs)
     returns-3
-    hardware-type-requires
+    (λ c κs. search needs)
     returns-4
     returns-5)
