@@ -73,7 +73,11 @@ pub fn masks_at(words: &Words, drivers: &Drivers, slot: usize, matrix: Matrix) -
         Matrix::Guest => {
             let kept = domains.and(record::configured_domains(words));
             Masks {
-                adapters: passed_adapters(drivers, adapters.and(record::configured_adapters(words)), kept),
+                adapters: passed_adapters(
+                    drivers,
+                    adapters.and(record::configured_adapters(words)),
+                    kept,
+                ),
                 domains: kept,
                 controls: controls.and(record::configured_controls(words)),
             }
