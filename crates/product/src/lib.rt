@@ -30,12 +30,12 @@ impl Product {
         ensures { λ r. ⌜ Meet (queuesOf self) (queuesOf other) r ⌝ }
     {
         let adapters = self.adapters;
-        let others = other.adapters;
-        if !adapters.meets(others) {
+        let other_adapters = other.adapters;
+        if !adapters.meets(other_adapters) {
             return false;
         }
         let domains = self.domains;
-        let others = other.domains;
-        domains.meets(others)
+        let other_domains = other.domains;
+        domains.meets(other_domains)
     }
 }

@@ -1,7 +1,7 @@
 -- `meets` meets its contract.
 -- Assumes nothing.
-use mathlib.Core.Path.{sym, ap, _∙_}
-use mathlib.Core.Bool.{Bool, _&&_}
+use mathlib.Core.Path.{_≡_, sym, _∙_}
+use mathlib.Core.Bool.{true, false}
 use borrow.Author.Needs.{needs}
 use borrow.Author.Tests.{not-true, not-false}
 use Rattle.mask.specs.Bits.{bits, both, someBelow}
@@ -12,15 +12,15 @@ use Rattle.product.proofs.Product.meets.Tie as tie
 returns : tie.Need-returns
 returns c =
     let a = c .before .before .before .before .args in
-    meet (bits (a .self .adapters)) (bits (a .self .domains)) (bits (a .other .adapters)) (bits (a .other .domains))
-    (sym (rw (sym (c .before .meets .ensures) ∙ not-true _ (c .if1 .taken))))
+    let apart : someBelow 256 (both (bits (a .self .adapters)) (bits (a .other .adapters))) ≡ false = sym (c .before .meets .ensures) ∙ not-true _ (c .if1 .taken) in
+    meet (bits (a .self .adapters)) (bits (a .self .domains)) (bits (a .other .adapters)) (bits (a .other .domains)) (sym (rw apart))
 
 returns-2 : tie.Need-returns-2
 returns-2 c =
     let u = c .before .before .before in
     let a = u .before .before .before .before .args in
-    meet (bits (a .self .adapters)) (bits (a .self .domains)) (bits (a .other .adapters)) (bits (a .other .domains))
-    (c .meets2 .ensures ∙ sym (rw (sym (u .before .meets .ensures) ∙ not-false _ (u .if1 .left))))
+    let met : someBelow 256 (both (bits (a .self .adapters)) (bits (a .other .adapters))) ≡ true = sym (u .before .meets .ensures) ∙ not-false _ (u .if1 .left) in
+    meet (bits (a .self .adapters)) (bits (a .self .domains)) (bits (a .other .adapters)) (bits (a .other .domains)) (c .meets2 .ensures ∙ sym (rw met))
 
 pub meets-spec : {M : Type 1} → statement M
 meets-spec =
