@@ -3,34 +3,25 @@
 use Prim.Native.Nat.{ℕ, _+_, _*_, _≤_, _<_}
 use native.Mathlib.Omega.{arith}
 use mathlib.Core.Path.{_≡_, refl, sym, ap, ap₂, _∙_}
-use mathlib.Core.Bool.{Bool, true, false, cond, not, _&&_, and-true, and-false}
+use mathlib.Core.Bool.{Bool, true, false, not, _&&_, and-true, and-false}
 use mathlib.Core.List.{List}
 use lib.ListN.{getD}
 use lib.Dec.{eqb, ltb}
 use borrow.Author.Tests.{eqb-true, eqb-false, ltb-true, ltb-false, lt-ltb, le-ltb}
-use lib.Arith.{digits-div, digits-mod}
 use Rattle.mask.specs.Bits.{Bits, both}
-use Rattle.rules.specs.declared.Driver.the-variants.{Unbound, Host, Passthrough}
-use Rattle.rules.specs.State.{State, Device, Devices, inProduct}
+use Rattle.rules.specs.declared.Id.{Id}
+use Rattle.rules.specs.State.{Device, inProduct}
 use Rattle.rules.specs.Queues.{passed, guestAdapters, guestDomains, usable}
-use Rattle.record.specs.Layout.{driverOf, configIn, stateIn}
+use Rattle.rules.specs.Commands.{slotOf}
+use Rattle.record.specs.Layout.{driverOf, configIn, deviceIn, stateIn}
 use Rattle.guest.specs.Row.{missing, heldBack}
+use Rattle.guest.specs.Masks.{usableWith}
 
--- only byte 2 is passthrough
-pub passed-two : (b : ℕ) → passed (driverOf b) ≡ eqb b 2
-unfolding passed driverOf
-passed-two b = go (eqb b 1) (eqb b 2) refl refl
-  where
-    go : (s t : Bool) → eqb b 1 ≡ s → eqb b 2 ≡ t → passed (cond s Host (cond t Passthrough Unbound)) ≡ t
-    go true true p q = absurd (omega (arith, eqb-true b 1 p, eqb-true b 2 q))
-    go true false p q = refl
-    go false true p q = refl
-    go false false p q = refl
-
--- a queue holds its adapter back where its domain is there and its byte is not 2
-pub missing-at : (qs : List ℕ) (ds : Bits) (a d : ℕ) (s t : Bool) → ds d ≡ s → eqb (getD qs (a * 256 + d) 0) 2 ≡ t → missing qs ds a d ≡ (s && not t)
+-- a queue holds its adapter back where its domain is there and its driver does not pass it through
+pub missing-at : (qs : List ℕ) (ds : Bits) (a d : ℕ) (s t : Bool) → ds d ≡ s → passed (driverOf (getD qs (a * 256 + d) 0)) ≡ t
+    → missing qs ds a d ≡ (s && not t)
 unfolding missing
-missing-at qs ds a d s t p q = ap₂ (λ (x y : Bool). x && not y) p (passed-two (getD qs (a * 256 + d) 0) ∙ q)
+missing-at qs ds a d s t p q = ap₂ (λ (x y : Bool). x && not y) p q
 
 -- one adapter more is looked at
 pub next-look : (j a : ℕ) (b h : Bool) → (b && not (ltb j a && h) && not (eqb j a && h)) ≡ (b && not (ltb j (a + 1) && h))
@@ -82,10 +73,10 @@ pub guest-adapters : (ws qs : List ℕ) (v : Device) {adapters domains : Bits} �
 unfolding both guestAdapters stateIn heldBack missing
 guest-adapters ws qs v p q = ap₂ (λ (f g : Bits). λ (j : ℕ). f j && not (heldBack qs g j)) p q
 
--- the three tests of whether a guest can use a queue of the device at slot p, which is slot n
-pub usable-by : (s : State) (v : Devices) {p n : ℕ} (a d : ℕ) (x y z : Bool) → p ≡ n → d < 256 → v p .isOpen ≡ x → guestAdapters s (v p) a ≡ y
-    → guestDomains s (v p) d ≡ z → (x && (y && z)) ≡ usable s (v n) (a * 256 + d)
-unfolding usable inProduct
-usable-by s v {p} a d x y z e h i j k =
-    sym (ap₂ _&&_ i (ap₂ _&&_ (ap (guestAdapters s (v p)) (digits-div a h) ∙ j) (ap (guestDomains s (v p)) (digits-mod a h) ∙ k)))
-    ∙ ap (λ (m : ℕ). usable s (v m) (a * 256 + d)) e
+-- a queue is usable where the device, which is at slot p, is open and the product of its guest masks has the queue
+pub usable-at : (ws qs : List ℕ) (i : Id) {p : ℕ} {us ds : Bits} (q : ℕ) (x : Bool) → p ≡ slotOf i (deviceIn ws) → deviceIn ws p .isOpen ≡ x
+    → us ≡ guestAdapters (stateIn ws qs) (deviceIn ws p) → ds ≡ guestDomains (stateIn ws qs) (deviceIn ws p)
+    → (x && inProduct us ds q) ≡ usableWith i (stateIn ws qs) q
+unfolding usable stateIn
+usable-at ws qs i q x e o a d =
+    sym (ap₂ _&&_ o (ap₂ (λ (f g : Bits). inProduct f g q) (sym a) (sym d))) ∙ ap (λ (n : ℕ). usable (stateIn ws qs) (deviceIn ws n) q) e

@@ -1,0 +1,31 @@
+-- What a guest is shown: the contracts of the masks.
+-- Assumes nothing.
+use mathlib.Core.Bool.{cond}
+use mathlib.Core.Path.{_≡_}
+use lib.Dec.{ltb}
+use Rattle.errno.specs.Errno.{numberOf}
+use Rattle.errno.specs.declared.Errno.the-variants.{Enoent}
+use Rattle.mask.specs.Bits.{Bits, bits}
+use Rattle.rules.specs.declared.Id.{Id}
+use Rattle.rules.specs.declared.Masks.{Masks}
+use Rattle.rules.specs.declared.Matrix.{Matrix}
+use Rattle.rules.specs.State.{State, Device, slots}
+use Rattle.rules.specs.Queues.{matrixAdapters, matrixDomains, matrixControls, usable}
+use Rattle.rules.specs.Commands.{answered, slotOf}
+use Rattle.record.specs.Lent.{deviceWith}
+use Rattle.guest.specs.declared.Shown.{Shown}
+
+-- the masks of a device's matrix
+pub record HasMasks (w : Matrix) (s : State) (v : Device) (m : Masks) : Type 0 where
+  pub adapters : bits (m .adapters) ≡ matrixAdapters w s v
+  pub domains : bits (m .domains) ≡ matrixDomains w s v
+  pub controls : bits (m .controls) ≡ matrixControls w s v
+
+-- the answer for an id, and the masks of its device, which are empty where there is none
+pub record Shows (s : State) (i : Id) (w : Matrix) (r : Shown) : Type 0 where
+  pub answer : answered (r .answer) ≡ cond (ltb (slotOf i (s .device)) slots) 0 (numberOf Enoent)
+  pub masks : HasMasks w s (deviceWith i (s .device)) (r .masks)
+
+-- the queues that the guest of the device with an id can use
+abbrev pub usableWith : Id → State → Bits
+usableWith i s = usable s (deviceWith i (s .device))
