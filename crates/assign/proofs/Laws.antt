@@ -3,13 +3,12 @@
 use Prim.Native.Nat.{ℕ, zero, suc, _+_, _^_, _≤_, _<_, _%_}
 use native.Mathlib.Omega.{arith}
 use mathlib.Core.Bool.{Bool, true, false, cond, _||_, or-false}
-use mathlib.Core.List.{List}
+use mathlib.Core.List.{List, []}
 use mathlib.Core.Path.{_≡_, refl, sym, ap, ap₂, subst, _∙_, fun-ext}
 use lib.ListN.{getD}
 use lib.Dec.{eqb, leb}
 use borrow.Author.Tests.{eqb-true, leb-true}
 use Rattle.errno.specs.Outcome.{Outcome, granted, refused}
-use Rattle.errno.specs.Errno.{numberOf}
 use Rattle.errno.specs.declared.Errno.the-variants.{Enodev, Einval, Eaddrinuse, Eaddrnotavail}
 use Rattle.mask.specs.declared.Mask.{Mask}
 use Rattle.mask.specs.Bits.{Sized, Bits, bits, someBelow, both, included, noBits}
@@ -22,26 +21,19 @@ use Rattle.rules.specs.declared.Kind.{Kind}
 use Rattle.rules.specs.declared.Kind.the-variants.{Adapter, Domain, Control}
 use Rattle.rules.specs.State.{State, slots, queues, inProduct}
 use Rattle.rules.specs.Queues.{reserved}
-use Rattle.rules.specs.Commands.{numbersOf, withNumbers, withDevice, single, onDevice, slotOf, limitOf, reading, assignAt, adding, paired, assignedElsewhere}
-use Rattle.record.specs.Carried.{Carried}
+use Rattle.rules.specs.Commands.{numbersOf, withNumbers, withDevice, single, onDevice, slotOf, limitOf, reading, assignAt, adding, paired, assignedElsewhere, assign}
+use Rattle.record.specs.Carried.{CarriedWords}
 use Rattle.record.specs.Layout.{wordCount, four, maskAt, deviceIn, limitsIn, hostIn, stateIn, wordsOf, putFour, putNumbers, deviceAt, kindAt}
 use Rattle.record.proofs.Laws.{cond-below, device-there, numbers-there, words-of, put-same, read-numbers, refused-carried}
 use Rattle.lookup.proofs.Found.{known}
-use Rattle.assign.specs.Numbers.{value, changed}
+use Rattle.rules.specs.Refusals.{RefusedExactly}
+use Rattle.rules.proofs.Refusals.{absorbed, refused-exactly}
+use Rattle.assign.specs.Numbers.{value, changed, assigned}
 
 -- a number alone, as a mask with one bit set
 pub one-bit : (n : ℕ) → included n noBits ≡ single n
 unfolding included noBits single
 one-bit n = fun-ext (λ i. or-false (eqb i n))
-
--- a number that is assigned adds nothing
-absorbed : (n : ℕ) (m : Bits) → m n ≡ true → included n m ≡ m
-unfolding included
-absorbed n m h = fun-ext (λ i. go i (eqb i n) refl)
-  where
-    go : (i : ℕ) (b : Bool) → eqb i n ≡ b → (b || m i) ≡ m i
-    go i true e = sym (ap m (eqb-true i n e) ∙ h)
-    go i false e = refl
 
 -- four of the record's words
 four-words : {ws : List ℕ} → Sized 64 wordCount ws → (k : ℕ) → Sized 64 4 (four ws k)
@@ -123,17 +115,23 @@ module _ (k : Kind) (n p : ℕ) (ws qs : List ℕ) where
 
 -- ---- the text of a number
 
-module _ (rule : ℕ → State → Outcome State) (effect : ℕ → List ℕ) (text ws : List ℕ) where
+module _ (rule : ℕ → State → Outcome State) (effect : ℕ → List ℕ → List ℕ) (text ws : List ℕ) where
   -- the number that a text says
-  pub by-number : (n : ℕ) (after : List ℕ) (r : Answer) → numberText text ≡ granted n → Carried (rule n) (effect n) ws after r
-      → Carried (λ s. reading (numberText text) (λ m. rule m s)) (effect (value (numberText text))) ws after r
+  pub by-number : (n : ℕ) (vs : List ℕ) (r : Answer) → numberText text ≡ granted n → CarriedWords (rule n) (effect n) ws vs r
+      → CarriedWords (λ s. reading (numberText text) (λ m. rule m s)) (effect (value (numberText text))) ws vs r
   unfolding reading value
-  by-number n after r e =
-      subst (λ (o : Outcome ℕ). Carried (rule n) (effect n) ws after r → Carried (λ s. reading o (λ m. rule m s)) (effect (value o)) ws after r) (sym e) (λ h. h)
+  by-number n vs r e =
+      subst (λ (o : Outcome ℕ). CarriedWords (rule n) (effect n) ws vs r → CarriedWords (λ s. reading o (λ m. rule m s)) (effect (value o)) ws vs r) (sym e) (λ h. h)
 
   -- bad text
-  pub by-none : numberText text ≡ refused Einval → Carried (λ s. reading (numberText text) (λ m. rule m s)) (effect (value (numberText text))) ws ws (Refused Einval)
-  unfolding reading numberOf
+  pub by-none : numberText text ≡ refused Einval → CarriedWords (λ s. reading (numberText text) (λ m. rule m s)) (effect (value (numberText text))) ws ws (Refused Einval)
+  unfolding reading
   by-none e =
-      refused-carried (λ s. reading (numberText text) (λ m. rule m s)) _ ws Einval
+      refused-carried (λ s. reading (numberText text) (λ m. rule m s)) (effect (value (numberText text))) ws Einval
       (λ qs. ap (λ (o : Outcome ℕ). reading o (λ m. rule m (stateIn ws qs))) e)
+
+-- the answer is a refusal exactly where demand 2 says
+pub exact : (k : Kind) (i : Id) (text ws : List ℕ) {vs : List ℕ} {r : Answer} → CarriedWords (assign k i text) (assigned k i text) ws vs r
+    → RefusedExactly k i text (limitsIn ws) (hostIn ws) (deviceIn ws) r
+unfolding stateIn
+exact k i text ws {vs} {r} c = refused-exactly k i text (stateIn ws []) r (c [] .answer)

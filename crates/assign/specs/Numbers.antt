@@ -2,13 +2,18 @@
 -- Assumes nothing.
 use Prim.Native.Nat.{ℕ}
 use mathlib.Core.List.{List}
+use denote.Ref.{now}
 use Rattle.errno.specs.Outcome.{Outcome, granted, refused}
 use Rattle.mask.specs.Bits.{Bits, included, excluded}
 use Rattle.number.specs.Text.{numberText}
 use Rattle.rules.specs.declared.Id.{Id}
 use Rattle.rules.specs.declared.Kind.{Kind}
-use Rattle.rules.specs.Commands.{slotOf, numbersOf}
-use Rattle.record.specs.Layout.{deviceIn, putNumbers, wordsOf}
+use Rattle.rules.specs.declared.Answer.{Answer}
+use Rattle.rules.specs.Commands.{slotOf, numbersOf, assign, unassign}
+use Rattle.rules.specs.Refusals.{RefusedExactly}
+use Rattle.record.specs.Layout.{limitsIn, hostIn, deviceIn, putNumbers, wordsOf}
+use Rattle.record.specs.Lent.{Lent}
+use Rattle.record.specs.Carried.{CarriedWords, Obeys}
 
 -- the value of a text's number; bad text has none, and 0 stands for it
 unfoldable pub value : Outcome ℕ → ℕ
@@ -19,10 +24,37 @@ value (refused e) = 0
 unfoldable pub changed : List ℕ → Kind → ℕ → (Bits → Bits) → List ℕ
 changed ws k p f = putNumbers ws p k (wordsOf (f (numbersOf k (deviceIn ws p))))
 
--- the words with the text's number assigned
-unfoldable pub withNumber : List ℕ → Kind → Id → List ℕ → List ℕ
-withNumber ws k i text = changed ws k (slotOf i (deviceIn ws)) (included (value (numberText text)))
+-- the words with a number assigned to, or taken from, the device at slot p
+abbrev pub assignedAt : Kind → ℕ → ℕ → List ℕ → List ℕ
+assignedAt k p n ws = changed ws k p (included n)
 
--- the words with the text's number taken away
-unfoldable pub withoutNumber : List ℕ → Kind → Id → List ℕ → List ℕ
-withoutNumber ws k i text = changed ws k (slotOf i (deviceIn ws)) (excluded (value (numberText text)))
+abbrev pub unassignedAt : Kind → ℕ → ℕ → List ℕ → List ℕ
+unassignedAt k p n ws = changed ws k p (excluded n)
+
+-- the same for the device with an id
+abbrev pub assignedNumber : Kind → Id → ℕ → List ℕ → List ℕ
+assignedNumber k i n ws = assignedAt k (slotOf i (deviceIn ws)) n ws
+
+abbrev pub unassignedNumber : Kind → Id → ℕ → List ℕ → List ℕ
+unassignedNumber k i n ws = unassignedAt k (slotOf i (deviceIn ws)) n ws
+
+-- the same with the number that a text says
+abbrev pub assigned : Kind → Id → List ℕ → List ℕ → List ℕ
+assigned k i text = assignedNumber k i (value (numberText text))
+
+abbrev pub unassigned : Kind → Id → List ℕ → List ℕ → List ℕ
+unassigned k i text = unassignedNumber k i (value (numberText text))
+
+-- assigning the number of a text, on the words ws, which are left as vs
+pub record Assigning (k : Kind) (i : Id) (text ws vs : List ℕ) (r : Answer) : Type 0 where
+  pub rule : CarriedWords (assign k i text) (assigned k i text) ws vs r
+  -- demand 2's sentence
+  pub exactly : RefusedExactly k i text (limitsIn ws) (hostIn ws) (deviceIn ws) r
+
+-- the same of lent memory at entry and at exit
+abbrev pub Assigns : Kind → Id → Lent → Lent → Lent → Answer → Type 0
+Assigns k i text entry exit r = Assigning k i (now text) (now entry) (now exit) r
+
+-- unassigning the number of a text
+abbrev pub Unassigns : Kind → Id → Lent → Lent → Lent → Answer → Type 0
+Unassigns k i text entry exit r = Obeys (unassign k i (now text)) (unassigned k i (now text)) entry exit r

@@ -1,37 +1,30 @@
 // Assigning adapters, domains and control domains to a device, and taking them away.
 //
-// Rests on errno, mask, number, rules, record and lookup.
+// Rests on errno, mask, number, product, rules, record and lookup.
 use errno::Errno;
 use mask::Mask;
 use number::Number;
+use product::Product;
 use record::SLOTS;
 use record::Words;
 use rules::Answer;
 use rules::Id;
 use rules::Kind;
 ghost use Prim.Native.Nat.{_<_};
-ghost use mathlib.Core.Bool.{cond};
 ghost use mathlib.Core.Path.{_≡_};
 ghost use lib.Dec.{leb};
-ghost use Rattle.errno.specs.Outcome.{granted, refused};
-ghost use Rattle.errno.specs.declared.Errno.the-variants.{Enodev};
-ghost use Rattle.mask.specs.Bits.{bits, someBelow, both, included, excluded};
-ghost use Rattle.rules.specs.State.{inProduct, queues};
+ghost use Rattle.mask.specs.Bits.{someBelow, both};
+ghost use Rattle.rules.specs.State.{slots, queues};
 ghost use Rattle.rules.specs.Queues.{reserved};
-ghost use Rattle.rules.specs.Commands.{assign, unassign, onDevice, assignAt, paired, slotOf, limitOf, numbersOf, withNumbers, withDevice};
-ghost use Rattle.record.specs.Carried.{Carried};
-ghost use Rattle.assign.specs.Numbers.{changed, withNumber, withoutNumber};
+ghost use Rattle.rules.specs.Commands.{assignNumber, unassignNumber, assignAt, unassignAt, paired, limitOf};
 ghost use Rattle.record.specs.Lent.{limits, host, devices};
-
-// A product of adapters and domains.
-struct Product {
-    adapters: Mask,
-    domains: Mask,
-}
+ghost use Rattle.record.specs.Carried.{Obeys};
+ghost use Rattle.product.specs.Meet.{queuesOf};
+ghost use Rattle.assign.specs.Numbers.{Assigns, Unassigns, assignedNumber, unassignedNumber, assignedAt};
 
 // Assigns the number that a text says.
 pub fn assign(words: &mut Words, kind: Kind, id: Id, text: &[u8]) -> Answer
-    ensures { λ r. ⌜ Carried (assign kind id (now (text .entry))) (withNumber (now (words .entry)) kind id (now (text .entry))) (now (words .entry)) (now (words .exit)) r ⌝ }
+    ensures { λ r. ⌜ Assigns kind id (text .entry) (words .entry) (words .exit) r ⌝ }
 {
     match number::parse(text) {
         Number::Value(n) => assign_number(words, kind, id, n),
@@ -41,7 +34,7 @@ pub fn assign(words: &mut Words, kind: Kind, id: Id, text: &[u8]) -> Answer
 
 // Takes away the number that a text says.
 pub fn unassign(words: &mut Words, kind: Kind, id: Id, text: &[u8]) -> Answer
-    ensures { λ r. ⌜ Carried (unassign kind id (now (text .entry))) (withoutNumber (now (words .entry)) kind id (now (text .entry))) (now (words .entry)) (now (words .exit)) r ⌝ }
+    ensures { λ r. ⌜ Unassigns kind id (text .entry) (words .entry) (words .exit) r ⌝ }
 {
     match number::parse(text) {
         Number::Value(n) => unassign_number(words, kind, id, n),
@@ -50,7 +43,7 @@ pub fn unassign(words: &mut Words, kind: Kind, id: Id, text: &[u8]) -> Answer
 }
 
 fn assign_number(words: &mut Words, kind: Kind, id: Id, number: u16) -> Answer
-    ensures { λ r. ⌜ Carried (λ t. onDevice id t (λ slot. cond (leb number (limitOf kind (t .limits))) (assignAt kind number slot t) (refused Enodev))) (changed (now (words .entry)) kind (slotOf id (devices (words .entry))) (included number)) (now (words .entry)) (now (words .exit)) r ⌝ }
+    ensures { λ r. ⌜ Obeys (assignNumber kind id number) (assignedNumber kind id number) (words .entry) (words .exit) r ⌝ }
 {
     let slot = lookup::find(words, id);
     if SLOTS <= slot {
@@ -63,7 +56,7 @@ fn assign_number(words: &mut Words, kind: Kind, id: Id, number: u16) -> Answer
 }
 
 fn unassign_number(words: &mut Words, kind: Kind, id: Id, number: u16) -> Answer
-    ensures { λ r. ⌜ Carried (λ t. onDevice id t (λ slot. cond (leb number (limitOf kind (t .limits))) (granted (withDevice slot (withNumbers kind (excluded number (numbersOf kind (t .device slot))) (t .device slot)) t)) (refused Enodev))) (changed (now (words .entry)) kind (slotOf id (devices (words .entry))) (excluded number)) (now (words .entry)) (now (words .exit)) r ⌝ }
+    ensures { λ r. ⌜ Obeys (unassignNumber kind id number) (unassignedNumber kind id number) (words .entry) (words .exit) r ⌝ }
 {
     let slot = lookup::find(words, id);
     if SLOTS <= slot {
@@ -90,48 +83,46 @@ fn limit(words: &Words, kind: Kind) -> u8
     ensures { λ r. ⌜ r ≡ limitOf kind (limits (words .entry)) ⌝ }
 {
     match kind {
-        Kind::Adapter => record::max_adapter(words),
-        Kind::Domain => record::max_domain(words),
-        Kind::Control => record::max_domain(words),
+        Kind::Adapter => record::max_adapter(words).0,
+        Kind::Domain => record::max_domain(words).0,
+        Kind::Control => record::max_domain(words).0,
     }
 }
 
 // Assigns a number that is in range to the device at slot p.
 fn assign_at(words: &mut Words, kind: Kind, slot: usize, number: u8) -> Answer
-    requires { ⌜ slot < 8 ⌝ }
-    ensures { λ r. ⌜ Carried (assignAt kind number slot) (changed (now (words .entry)) kind slot (included number)) (now (words .entry)) (now (words .exit)) r ⌝ }
+    requires { ⌜ slot < slots ⌝ }
+    ensures { λ r. ⌜ Obeys (assignAt kind number slot) (assignedAt kind slot number) (words .entry) (words .exit) r ⌝ }
 {
     record::hold_words(words);
     let m = record::numbers(words, slot, kind);
     if m.has(number) {
         return Answer::Done;
     }
-    let new = paired(words, kind, slot, number);
-    let adapters = new.adapters;
-    let domains = new.domains;
-    if reserved(words, adapters, domains) {
+    let wanted = paired(words, kind, slot, number);
+    if reserved(words, wanted) {
         return Answer::Refused(Errno::Eaddrnotavail);
     }
-    if lookup::taken(words, slot, adapters, domains) {
+    if lookup::taken(words, slot, wanted) {
         return Answer::Refused(Errno::Eaddrinuse);
     }
     record::put_numbers(words, slot, kind, m.with(number));
     Answer::Done
 }
 
-// Whether a queue of a product is reserved for the host.
-fn reserved(words: &Words, adapters: Mask, domains: Mask) -> bool
-    ensures { λ r. ⌜ r ≡ someBelow queues (both (inProduct (bits adapters) (bits domains)) (reserved (host (words .entry)))) ⌝ }
+// Whether a queue that is wanted is reserved for the host.
+fn reserved(words: &Words, wanted: Product) -> bool
+    ensures { λ r. ⌜ r ≡ someBelow queues (both (queuesOf wanted) (reserved (host (words .entry)))) ⌝ }
 {
-    if adapters.meets(record::apmask(words)) {
-        return domains.meets(record::aqmask(words));
-    }
-    false
+    wanted.meets(Product {
+        adapters: record::apmask(words),
+        domains: record::aqmask(words),
+    })
 }
 
 // The queues that a new number pairs with the device's numbers of the other kind, as a product.
 fn paired(words: &Words, kind: Kind, slot: usize, number: u8) -> Product
-    ensures { λ r. ⌜ inProduct (bits (r .adapters)) (bits (r .domains)) ≡ paired kind number (devices (words .entry) slot) ⌝ }
+    ensures { λ r. ⌜ queuesOf r ≡ paired kind number (devices (words .entry) slot) ⌝ }
 {
     match kind {
         Kind::Adapter => Product {

@@ -1,16 +1,17 @@
-// Looking through the devices of a record: the slot of an id, a free slot, and whether a product is assigned.
+// Looking through the devices of a record: the slot of an id, a free slot, and whether queues are assigned.
 //
-// Rests on errno, mask, rules and record.
-use mask::Mask;
+// Rests on errno, mask, product, rules and record.
+use product::Product;
 use record::SLOTS;
 use record::Words;
 use rules::Id;
 use rules::Kind;
 ghost use mathlib.Core.Bool.{_&&_};
 ghost use mathlib.Core.Path.{_≡_};
-ghost use Rattle.mask.specs.Bits.{bits, someBelow, both};
-ghost use Rattle.rules.specs.State.{inProduct, queues};
-ghost use Rattle.rules.specs.Commands.{sameId, slotOf, freeSlot, assignedElsewhere};
+ghost use Rattle.mask.specs.Bits.{someBelow, both};
+ghost use Rattle.rules.specs.State.{queues};
+ghost use Rattle.rules.specs.Commands.{sameId, slotOf, freeSlot, product, assignedElsewhere};
+ghost use Rattle.product.specs.Meet.{queuesOf};
 ghost use Rattle.record.specs.Lent.{devices};
 
 // The slot of the device with an id, or SLOTS where there is none.
@@ -61,14 +62,14 @@ pub fn free(words: &Words) -> usize
     slot
 }
 
-// Whether a queue of a product is assigned to another device than the one at slot p.
-pub fn taken(words: &Words, slot: usize, adapters: Mask, domains: Mask) -> bool
-    ensures { λ r. ⌜ r ≡ someBelow queues (both (inProduct (bits adapters) (bits domains)) (assignedElsewhere slot (devices (words .entry)))) ⌝ }
+// Whether a queue that is wanted is assigned to another device than the one at a slot.
+pub fn taken(words: &Words, slot: usize, wanted: Product) -> bool
+    ensures { λ r. ⌜ r ≡ someBelow queues (both (queuesOf wanted) (assignedElsewhere slot (devices (words .entry)))) ⌝ }
 {
     let mut other = 0usize;
     while other < SLOTS {
         if other != slot {
-            if shares(words, other, adapters, domains) {
+            if shares(words, other, wanted) {
                 return true;
             }
         }
@@ -77,14 +78,15 @@ pub fn taken(words: &Words, slot: usize, adapters: Mask, domains: Mask) -> bool
     false
 }
 
-// Whether a queue of a product is assigned to the device at slot j.
-fn shares(words: &Words, slot: usize, adapters: Mask, domains: Mask) -> bool
-    ensures { λ r. ⌜ r ≡ (devices (words .entry) slot .present && (someBelow 256 (both (bits adapters) (devices (words .entry) slot .adapters)) && someBelow 256 (both (bits domains) (devices (words .entry) slot .domains)))) ⌝ }
+// Whether a queue that is wanted is assigned to the device at a slot.
+fn shares(words: &Words, slot: usize, wanted: Product) -> bool
+    ensures { λ r. ⌜ r ≡ someBelow queues (both (queuesOf wanted) (product (devices (words .entry) slot))) ⌝ }
 {
-    if occupied(words, slot) {
-        if adapters.meets(record::numbers(words, slot, Kind::Adapter)) {
-            return domains.meets(record::numbers(words, slot, Kind::Domain));
-        }
+    if !occupied(words, slot) {
+        return false;
     }
-    false
+    wanted.meets(Product {
+        adapters: record::numbers(words, slot, Kind::Adapter),
+        domains: record::numbers(words, slot, Kind::Domain),
+    })
 }

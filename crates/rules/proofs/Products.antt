@@ -108,25 +108,17 @@ elsewhere-anywhere vs =
     fun-ext (λ q. some-cong slots (λ j. not (eqb j slots) && product (vs j) q) (λ j. product (vs j) q)
     (λ j h. ap (λ (b : Bool). not b && product (vs j) q) (ne-eqb j slots (λ e. omega arith))))
 
--- a product shares a queue with another device's exactly when some device elsewhere has a product that meets it
-pub taken-by : (p : ℕ) (vs : Devices) (us ds : Bits)
-    → someBelow queues (both (inProduct us ds) (assignedElsewhere p vs))
-    ≡ someBelow slots (λ j. not (eqb j p) && (vs j .present && (someBelow 256 (both us (vs j .adapters)) && someBelow 256 (both ds (vs j .domains)))))
-unfolding both assignedElsewhere product
-taken-by p vs us ds =
-    some-cong queues (λ q. inProduct us ds q && someBelow slots (λ j. here j q)) (λ q. someBelow slots (λ j. inProduct us ds q && here j q))
-    (λ q h. some-and slots (inProduct us ds q) (λ j. here j q))
-    ∙ some-swap queues slots (λ j q. inProduct us ds q && here j q)
-    ∙ some-cong slots (λ j. someBelow queues (λ q. inProduct us ds q && here j q)) (λ j. there j) (λ j h. one j (not (eqb j p)) (vs j .present))
+-- some queues and another device's meet exactly when they meet the product of some device elsewhere
+pub taken-by : (p : ℕ) (vs : Devices) (m : Bits)
+    → someBelow queues (both m (assignedElsewhere p vs)) ≡ someBelow slots (λ j. not (eqb j p) && someBelow queues (both m (product (vs j))))
+unfolding both assignedElsewhere
+taken-by p vs m =
+    some-cong queues (λ q. m q && someBelow slots (λ j. not (eqb j p) && product (vs j) q)) (λ q. someBelow slots (λ j. m q && (not (eqb j p) && product (vs j) q)))
+    (λ q h. some-and slots (m q) (λ j. not (eqb j p) && product (vs j) q))
+    ∙ some-swap queues slots (λ j q. m q && (not (eqb j p) && product (vs j) q))
+    ∙ some-cong slots (λ j. someBelow queues (λ q. m q && (not (eqb j p) && product (vs j) q))) (λ j. not (eqb j p) && someBelow queues (λ q. m q && product (vs j) q))
+    (λ j h. one (not (eqb j p)) (product (vs j)))
   where
-    here : ℕ → Bits
-    here j q = not (eqb j p) && (vs j .present && inProduct (vs j .adapters) (vs j .domains) q)
-
-    there : Bits
-    there j = not (eqb j p) && (vs j .present && (someBelow 256 (both us (vs j .adapters)) && someBelow 256 (both ds (vs j .domains))))
-
-    one : (j : ℕ) (a b : Bool) → someBelow queues (λ q. inProduct us ds q && (a && (b && inProduct (vs j .adapters) (vs j .domains) q)))
-        ≡ (a && (b && (someBelow 256 (both us (vs j .adapters)) && someBelow 256 (both ds (vs j .domains)))))
-    one j true true = products-meet us ds (vs j .adapters) (vs j .domains)
-    one j true false = none-some queues (λ q. inProduct us ds q && false) (λ q h. mathlib.Core.Bool.and-false (inProduct us ds q))
-    one j false b = none-some queues (λ q. inProduct us ds q && false) (λ q h. mathlib.Core.Bool.and-false (inProduct us ds q))
+    one : (a : Bool) (u : Bits) → someBelow queues (λ q. m q && (a && u q)) ≡ (a && someBelow queues (λ q. m q && u q))
+    one true u = refl
+    one false u = none-some queues (λ q. m q && false) (λ q h. mathlib.Core.Bool.and-false (m q))

@@ -155,19 +155,25 @@ assignAt k n p s =
     cond (numbersOf k (s .device p) n) (granted s)
     (adding (paired k n (s .device p)) p s (withDevice p (withNumbers k (included n (numbersOf k (s .device p))) (s .device p)) s))
 
--- assign: the text, ENOENT, ENODEV, EADDRNOTAVAIL, EADDRINUSE
-unfoldable pub assign : Kind → Id → List ℕ → State → Outcome State
-assign k i text s =
-    reading (numberText text) (λ n. onDevice i s (λ p. cond (leb n (limitOf k (s .limits))) (assignAt k n p s) (refused Enodev)))
+-- assign a number: ENOENT, ENODEV, EADDRNOTAVAIL, EADDRINUSE
+abbrev pub assignNumber : Kind → Id → ℕ → State → Outcome State
+assignNumber k i n s = onDevice i s (λ p. cond (leb n (limitOf k (s .limits))) (assignAt k n p s) (refused Enodev))
 
--- unassign: the text, ENOENT, ENODEV
+-- assign: the text, then its number
+unfoldable pub assign : Kind → Id → List ℕ → State → Outcome State
+assign k i text s = reading (numberText text) (λ n. assignNumber k i n s)
+
+-- unassign a number from the device at slot p
+abbrev pub unassignAt : Kind → ℕ → ℕ → State → Outcome State
+unassignAt k n p s = granted (withDevice p (withNumbers k (excluded n (numbersOf k (s .device p))) (s .device p)) s)
+
+-- unassign a number: ENOENT, ENODEV
+abbrev pub unassignNumber : Kind → Id → ℕ → State → Outcome State
+unassignNumber k i n s = onDevice i s (λ p. cond (leb n (limitOf k (s .limits))) (unassignAt k n p s) (refused Enodev))
+
+-- unassign: the text, then its number
 unfoldable pub unassign : Kind → Id → List ℕ → State → Outcome State
-unassign k i text s =
-    reading (numberText text)
-    (λ n. onDevice i s
-    (λ p. cond (leb n (limitOf k (s .limits)))
-    (granted (withDevice p (withNumbers k (excluded n (numbersOf k (s .device p))) (s .device p)) s))
-    (refused Enodev)))
+unassign k i text s = reading (numberText text) (λ n. unassignNumber k i n s)
 
 -- new host masks: EADDRINUSE exactly if a queue reserved under them is assigned
 unfoldable pub setHost : HostMasks → State → Outcome State

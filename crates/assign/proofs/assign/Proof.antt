@@ -3,12 +3,10 @@
 use mathlib.Core.Path.{sym, ap, _∙_}
 use denote.Ref.{now}
 use borrow.Author.Needs.{needs}
-use Rattle.mask.specs.Bits.{included}
 use Rattle.number.specs.Text.{outcome}
-use Rattle.rules.specs.Commands.{slotOf, assign}
-use Rattle.record.specs.Layout.{deviceIn}
-use Rattle.assign.specs.Numbers.{changed, withNumber}
-use Rattle.assign.proofs.Laws.{by-number, by-none}
+use Rattle.rules.specs.Commands.{assign, assignNumber}
+use Rattle.assign.specs.Numbers.{assignedNumber}
+use Rattle.assign.proofs.Laws.{by-number, by-none, exact}
 use Rattle.assign.proofs.assign.Statement.{statement}
 use Rattle.assign.proofs.assign.Tie as tie
 
@@ -25,19 +23,21 @@ enum-told : tie.Need-enum-told
 enum-told c = search needs
 
 returns : tie.Need-returns
-unfolding assign withNumber outcome
+unfolding assign outcome
 returns c =
     let a = c .before .before .before .before .before .before .before .args in
     let n = c .before .before .before .n .given in
-    by-number _ (λ n. changed (a .words .now) (a .kind) (slotOf (a .id) (deviceIn (a .words .now))) (included n)) (now (a .text)) (a .words .now) (n .0 .0) _ _
-    (sym (c .before .before .before .before .before .parse .ensures) ∙ ap outcome (n .1)) (c .assign-number .ensures)
+    let done = by-number (assignNumber (a .kind) (a .id)) (assignedNumber (a .kind) (a .id)) (now (a .text)) (a .words .now) (n .0 .0) _ _
+    (sym (c .before .before .before .before .before .parse .ensures) ∙ ap outcome (n .1)) (c .assign-number .ensures) in
+    record { rule = done; exactly = exact (a .kind) (a .id) (now (a .text)) (a .words .now) done }
 
 returns-2 : tie.Need-returns-2
-unfolding assign withNumber outcome
+unfolding assign outcome
 returns-2 c =
     let a = c .before .before .before .before .args in
-    by-none _ (λ n. changed (a .words .now) (a .kind) (slotOf (a .id) (deviceIn (a .words .now))) (included n)) (now (a .text)) (a .words .now)
-    (sym (c .before .before .parse .ensures) ∙ ap outcome (c .enum-told .given .1))
+    let done = by-none (assignNumber (a .kind) (a .id)) (assignedNumber (a .kind) (a .id)) (now (a .text)) (a .words .now)
+    (sym (c .before .before .parse .ensures) ∙ ap outcome (c .enum-told .given .1)) in
+    record { rule = done; exactly = exact (a .kind) (a .id) (now (a .text)) (a .words .now) done }
 
 pub assign-spec : {M : Type 1} → statement M
 assign-spec =

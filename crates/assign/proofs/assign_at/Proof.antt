@@ -4,14 +4,13 @@ use Prim.Native.Nat.{ℕ}
 use mathlib.Core.Path.{refl, sym, ap, _∙_}
 use mathlib.Core.List.{List}
 use borrow.Author.Needs.{needs}
-use Rattle.errno.specs.Errno.{numberOf}
 use Rattle.errno.specs.declared.Errno.the-variants.{Eaddrinuse, Eaddrnotavail}
 use Rattle.mask.specs.Bits.{Bits, bits, included}
 use Rattle.mask.proofs.Laws.{mask-words}
 use Rattle.rules.specs.Commands.{assignAt, numbersOf, withDevice, withNumbers}
 use Rattle.record.specs.Layout.{deviceIn, stateIn}
-use Rattle.record.proofs.Laws.{refused-carried}
-use Rattle.lookup.proofs.Found.{done-carried}
+use Rattle.record.proofs.Laws.{refused-carried, done-carried}
+use Rattle.assign.specs.Numbers.{assignedAt}
 use Rattle.assign.proofs.Laws.{same-words, assigned-already, new-number, put-changed, read-changed}
 use Rattle.assign.proofs.assign_at.Statement.{statement}
 use Rattle.assign.proofs.assign_at.Tie as tie
@@ -31,7 +30,7 @@ returns c =
     let ws = a .words .now in
     let has = sym (c .before .has .ensures ∙ ap (λ (m : Bits). m (a .number)) (c .before .before .numbers .ensures)) ∙ c .if1 .taken in
     let same = same-words ws (a .kind) (a .slot) (c .before .before .before .before .hold-words .ensures) (c .before .before .before .before .before .before .pre) (a .number) has in
-    done-carried (λ qs. stateIn ws qs) same (λ qs. assigned-already (a .kind) (a .number) (a .slot) ws qs has) (λ qs. ap (λ (l : List ℕ). stateIn l qs) (sym same))
+    done-carried (assignAt (a .kind) (a .number) (a .slot)) (assignedAt (a .kind) (a .slot) (a .number)) ws (λ qs. stateIn ws qs) same (λ qs. assigned-already (a .kind) (a .number) (a .slot) ws qs has) (λ qs. ap (λ (l : List ℕ). stateIn l qs) (sym same))
 
 paired-requires : tie.Need-paired-requires
 paired-requires c κs = search needs
@@ -40,13 +39,12 @@ reserved-requires : tie.Need-reserved-requires
 reserved-requires c κs = search needs
 
 returns-2 : tie.Need-returns-2
-unfolding numberOf
 returns-2 c =
-    let a = c .before .before .before .before .before .before .before .before .before .before .before .before .before .args in
+    let a = c .before .before .before .before .before .before .before .before .before .before .before .args in
     let ws = a .words .now in
-    let none = sym (c .before .before .before .before .before .before .before .before .has .ensures ∙ ap (λ (m : Bits). m (a .number)) (c .before .before .before .before .before .before .before .before .before .numbers .ensures)) ∙ c .before .before .before .before .before .before .before .if1 .left in
-    let new = c .before .before .before .before .before .paired in
-    refused-carried (assignAt (a .kind) (a .number) (a .slot)) _ ws Eaddrnotavail
+    let none = sym (c .before .before .before .before .before .before .has .ensures ∙ ap (λ (m : Bits). m (a .number)) (c .before .before .before .before .before .before .before .numbers .ensures)) ∙ c .before .before .before .before .before .if1 .left in
+    let new = c .before .before .before .paired in
+    refused-carried (assignAt (a .kind) (a .number) (a .slot)) (assignedAt (a .kind) (a .slot) (a .number)) ws Eaddrnotavail
     (λ qs. new-number (a .kind) (a .number) (a .slot) ws qs (bits (new .result .adapters)) (bits (new .result .domains)) (new .ensures) none
     (sym (c .before .reserved .ensures) ∙ c .if2 .taken) refl)
 
@@ -54,13 +52,12 @@ taken-requires : tie.Need-taken-requires
 taken-requires c κs = search needs
 
 returns-3 : tie.Need-returns-3
-unfolding numberOf
 returns-3 c =
-    let a = c .before .before .before .before .before .before .before .before .before .before .before .before .before .before .before .before .args in
+    let a = c .before .before .before .before .before .before .before .before .before .before .before .before .before .before .args in
     let ws = a .words .now in
-    let none = sym (c .before .before .before .before .before .before .before .before .before .before .before .has .ensures ∙ ap (λ (m : Bits). m (a .number)) (c .before .before .before .before .before .before .before .before .before .before .before .before .numbers .ensures)) ∙ c .before .before .before .before .before .before .before .before .before .before .if1 .left in
-    let new = c .before .before .before .before .before .before .before .before .paired in
-    refused-carried (assignAt (a .kind) (a .number) (a .slot)) _ ws Eaddrinuse
+    let none = sym (c .before .before .before .before .before .before .before .before .before .has .ensures ∙ ap (λ (m : Bits). m (a .number)) (c .before .before .before .before .before .before .before .before .before .before .numbers .ensures)) ∙ c .before .before .before .before .before .before .before .before .if1 .left in
+    let new = c .before .before .before .before .before .before .paired in
+    refused-carried (assignAt (a .kind) (a .number) (a .slot)) (assignedAt (a .kind) (a .slot) (a .number)) ws Eaddrinuse
     (λ qs. new-number (a .kind) (a .number) (a .slot) ws qs (bits (new .result .adapters)) (bits (new .result .domains)) (new .ensures) none
     (sym (c .before .before .before .before .reserved .ensures) ∙ c .before .before .before .if2 .left) (sym (c .before .taken .ensures) ∙ c .if3 .taken))
 
@@ -72,16 +69,16 @@ put-numbers-requires c κs = search needs
 
 returns-4 : tie.Need-returns-4
 returns-4 c =
-    let a = c .before .before .before .before .before .before .before .before .before .before .before .before .before .before .before .before .before .before .before .args in
+    let a = c .before .before .before .before .before .before .before .before .before .before .before .before .before .before .before .before .before .args in
     let ws = a .words .now in
-    let none = sym (c .before .before .before .before .before .before .before .before .before .before .before .before .before .before .has .ensures ∙ ap (λ (m : Bits). m (a .number)) (c .before .before .before .before .before .before .before .before .before .before .before .before .before .before .before .numbers .ensures)) ∙ c .before .before .before .before .before .before .before .before .before .before .before .before .before .if1 .left in
-    let new = c .before .before .before .before .before .before .before .before .before .before .before .paired in
+    let none = sym (c .before .before .before .before .before .before .before .before .before .before .before .before .has .ensures ∙ ap (λ (m : Bits). m (a .number)) (c .before .before .before .before .before .before .before .before .before .before .before .before .before .numbers .ensures)) ∙ c .before .before .before .before .before .before .before .before .before .before .before .if1 .left in
+    let new = c .before .before .before .before .before .before .before .before .before .paired in
     let m = c .before .with .result in
     let words = mask-words m (c .before .with .ok) in
-    let made = c .before .with .ensures ∙ ap (included (a .number)) (c .before .before .before .before .before .before .before .before .before .before .before .before .before .before .before .numbers .ensures) in
-    let held = c .before .before .before .before .before .before .before .before .before .before .before .before .before .before .before .before .before .hold-words .ensures in
-    let there = c .before .before .before .before .before .before .before .before .before .before .before .before .before .before .before .before .before .before .before .pre in
-    done-carried
+    let made = c .before .with .ensures ∙ ap (included (a .number)) (c .before .before .before .before .before .before .before .before .before .before .before .before .before .numbers .ensures) in
+    let held = c .before .before .before .before .before .before .before .before .before .before .before .before .before .before .before .hold-words .ensures in
+    let there = c .before .before .before .before .before .before .before .before .before .before .before .before .before .before .before .before .before .pre in
+    done-carried (assignAt (a .kind) (a .number) (a .slot)) (assignedAt (a .kind) (a .slot) (a .number)) ws
     (λ qs. withDevice (a .slot) (withNumbers (a .kind) (included (a .number) (numbersOf (a .kind) (deviceIn ws (a .slot)))) (deviceIn ws (a .slot))) (stateIn ws qs))
     (c .put-numbers .ensures ∙ put-changed ws (a .kind) (a .slot) held there (included (a .number)) m words made)
     (λ qs. new-number (a .kind) (a .number) (a .slot) ws qs (bits (new .result .adapters)) (bits (new .result .domains)) (new .ensures) none

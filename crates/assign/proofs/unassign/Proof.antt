@@ -3,11 +3,9 @@
 use mathlib.Core.Path.{sym, ap, _∙_}
 use denote.Ref.{now}
 use borrow.Author.Needs.{needs}
-use Rattle.mask.specs.Bits.{excluded}
 use Rattle.number.specs.Text.{outcome}
-use Rattle.rules.specs.Commands.{slotOf, unassign}
-use Rattle.record.specs.Layout.{deviceIn}
-use Rattle.assign.specs.Numbers.{changed, withoutNumber}
+use Rattle.rules.specs.Commands.{unassign, unassignNumber}
+use Rattle.assign.specs.Numbers.{unassignedNumber}
 use Rattle.assign.proofs.Laws.{by-number, by-none}
 use Rattle.assign.proofs.unassign.Statement.{statement}
 use Rattle.assign.proofs.unassign.Tie as tie
@@ -25,18 +23,18 @@ enum-told : tie.Need-enum-told
 enum-told c = search needs
 
 returns : tie.Need-returns
-unfolding unassign withoutNumber outcome
+unfolding unassign outcome
 returns c =
     let a = c .before .before .before .before .before .before .before .args in
     let n = c .before .before .before .n .given in
-    by-number _ (λ n. changed (a .words .now) (a .kind) (slotOf (a .id) (deviceIn (a .words .now))) (excluded n)) (now (a .text)) (a .words .now) (n .0 .0) _ _
+    by-number (unassignNumber (a .kind) (a .id)) (unassignedNumber (a .kind) (a .id)) (now (a .text)) (a .words .now) (n .0 .0) _ _
     (sym (c .before .before .before .before .before .parse .ensures) ∙ ap outcome (n .1)) (c .unassign-number .ensures)
 
 returns-2 : tie.Need-returns-2
-unfolding unassign withoutNumber outcome
+unfolding unassign outcome
 returns-2 c =
     let a = c .before .before .before .before .args in
-    by-none _ (λ n. changed (a .words .now) (a .kind) (slotOf (a .id) (deviceIn (a .words .now))) (excluded n)) (now (a .text)) (a .words .now)
+    by-none (unassignNumber (a .kind) (a .id)) (unassignedNumber (a .kind) (a .id)) (now (a .text)) (a .words .now)
     (sym (c .before .before .parse .ensures) ∙ ap outcome (c .enum-told .given .1))
 
 pub unassign-spec : {M : Type 1} → statement M

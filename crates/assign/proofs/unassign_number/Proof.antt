@@ -5,15 +5,14 @@ use mathlib.Core.Bool.{not, Bool·not-not}
 use mathlib.Core.Path.{sym, ap, ap₂, _∙_}
 use mathlib.Core.List.{List}
 use borrow.Author.Needs.{needs}
-use Rattle.errno.specs.Errno.{numberOf}
 use Rattle.errno.specs.declared.Errno.the-variants.{Enoent, Enodev}
 use Rattle.mask.specs.Bits.{excluded}
 use Rattle.mask.proofs.Laws.{mask-words}
-use Rattle.rules.specs.Commands.{numbersOf, withDevice, withNumbers}
+use Rattle.rules.specs.Commands.{unassignNumber, numbersOf, withDevice, withNumbers}
 use Rattle.record.specs.Layout.{deviceIn, stateIn}
-use Rattle.record.proofs.Laws.{refused-carried}
-use Rattle.lookup.proofs.Found.{unknown, done-carried}
-use Rattle.assign.specs.Numbers.{changed}
+use Rattle.record.proofs.Laws.{refused-carried, done-carried}
+use Rattle.lookup.proofs.Found.{unknown}
+use Rattle.assign.specs.Numbers.{changed, unassignedNumber}
 use Rattle.assign.proofs.Laws.{by-range, in-range-small, put-changed, read-changed}
 use Rattle.assign.proofs.unassign_number.Statement.{statement}
 use Rattle.assign.proofs.unassign_number.Tie as tie
@@ -22,22 +21,20 @@ find-requires : tie.Need-find-requires
 find-requires c κs = search needs
 
 returns : tie.Need-returns
-unfolding numberOf
 returns c =
     let a = c .before .before .before .args in
-    refused-carried _ _ (a .words .now) Enoent
+    refused-carried (unassignNumber (a .kind) (a .id) (a .number)) (unassignedNumber (a .kind) (a .id) (a .number)) (a .words .now) Enoent
     (λ qs. unknown (a .id) (a .words .now) qs (c .before .find .result) (c .before .find .ensures) _ (c .if1 .taken))
 
 in-range-requires : tie.Need-in-range-requires
 in-range-requires c κs = search needs
 
 returns-2 : tie.Need-returns-2
-unfolding numberOf
 returns-2 c =
     let a = c .before .before .before .before .before .before .args in
     let f = c .before .before .before .before .find in
     let over = ap not (sym (c .if2 .taken)) ∙ Bool·not-not _ ∙ c .before .in-range .ensures in
-    refused-carried _ _ (a .words .now) Enodev
+    refused-carried (unassignNumber (a .kind) (a .id) (a .number)) (unassignedNumber (a .kind) (a .id) (a .number)) (a .words .now) Enodev
     (λ qs. by-range (a .kind) (a .id) (a .number) (a .words .now) qs (f .result) (f .ensures) (c .before .before .before .if1 .left) _ over _)
 
 hold-words-requires : tie.Need-hold-words-requires
@@ -70,7 +67,7 @@ returns-3 c =
     let made = c .before .without .ensures ∙ ap₂ excluded few (c .before .before .before .numbers .ensures) in
     let held = c .before .before .before .before .before .hold-words .ensures in
     let slot : ℕ → List ℕ = λ j. changed ws (a .kind) j (excluded (a .number)) in
-    done-carried
+    done-carried (unassignNumber (a .kind) (a .id) (a .number)) (unassignedNumber (a .kind) (a .id) (a .number)) ws
     (λ qs. withDevice p (withNumbers (a .kind) (excluded (a .number) (numbersOf (a .kind) (deviceIn ws p))) (deviceIn ws p)) (stateIn ws qs))
     (c .put-numbers .ensures ∙ put-changed ws (a .kind) p held there (excluded (a .number)) m words made ∙ ap slot (f .ensures))
     (λ qs. by-range (a .kind) (a .id) (a .number) ws qs p (f .ensures) there _ within _)

@@ -8,18 +8,20 @@ use mathlib.Core.Path.{_≡_, refl, sym, ap, _∙_}
 use borrow.Author.Tests.{eq-eqb, ne-eqb}
 use borrow.Author.Needs.{needs}
 use Rattle.mask.proofs.Laws.{some-intro}
-use Rattle.mask.specs.Bits.{bits, someBelow}
+use Rattle.mask.specs.Bits.{someBelow}
 use Rattle.rules.proofs.Products.{taken-by}
+use Rattle.rules.specs.State.{slots}
 use Rattle.record.specs.Layout.{deviceIn}
+use Rattle.product.specs.Meet.{queuesOf}
 use Rattle.lookup.proofs.Laws.{shared, none-next, and-yes, and-no}
 use Rattle.lookup.proofs.taken.Statement.{statement}
 use Rattle.lookup.proofs.taken.Tie as tie
 
 abbrev Inv-loop : tie.InvT-loop
-Inv-loop s p adapters domains j₀ j = (j ≤ 8) × (someBelow j (shared p (deviceIn s) (bits adapters) (bits domains)) ≡ false)
+Inv-loop words slot wanted other₀ other = (other ≤ slots) × (someBelow other (shared slot (deviceIn words) (queuesOf wanted)) ≡ false)
 
 abbrev μ-loop : tie.MeasureT-loop
-μ-loop s p adapters domains j₀ j = 8 - j
+μ-loop words slot wanted other₀ other = slots - other
 
 loop-holds : tie.Need-loop-holds Inv-loop μ-loop
 unfolding someBelow
@@ -32,9 +34,9 @@ returns : tie.Need-returns Inv-loop μ-loop
 returns c =
     let a = c .before .before .before .before .before .args in
     let j = c .before .before .before .before .loop .other in
-    let f = shared (a .slot) (deviceIn (a .words .now)) (bits (a .adapters)) (bits (a .domains)) in
-    sym (taken-by (a .slot) (deviceIn (a .words .now)) (bits (a .adapters)) (bits (a .domains))
-    ∙ some-intro 8 f j (omega arith)
+    let f = shared (a .slot) (deviceIn (a .words .now)) (queuesOf (a .wanted)) in
+    sym (taken-by (a .slot) (deviceIn (a .words .now)) (queuesOf (a .wanted))
+    ∙ some-intro slots f j (omega arith)
     (and-yes (ap not (ne-eqb j (a .slot) (c .before .before .if1 .taken))) ∙ sym (c .before .shares .ensures) ∙ c .if2 .taken))
 
 add-other : tie.Need-add-other Inv-loop μ-loop
@@ -47,7 +49,7 @@ loop-again : tie.Need-loop-again Inv-loop μ-loop
 loop-again c =
     let a = c .before .before .before .args in
     let l = c .before .before .loop in
-    let f = shared (a .slot) (deviceIn (a .words .now)) (bits (a .adapters)) (bits (a .domains)) in (
+    let f = shared (a .slot) (deviceIn (a .words .now)) (queuesOf (a .wanted)) in (
       omega arith,
       none-next (l .other) f (l .inv .1)
           (⊎-elim
@@ -60,9 +62,9 @@ returns-2 : tie.Need-returns-2 Inv-loop μ-loop
 returns-2 c =
     let a = c .before .before .args in
     let l = c .before .loop in
-    let f = shared (a .slot) (deviceIn (a .words .now)) (bits (a .adapters)) (bits (a .domains)) in
-    let last : l .other ≡ 8 = omega arith in
-    sym (taken-by (a .slot) (deviceIn (a .words .now)) (bits (a .adapters)) (bits (a .domains))
+    let f = shared (a .slot) (deviceIn (a .words .now)) (queuesOf (a .wanted)) in
+    let last : l .other ≡ slots = omega arith in
+    sym (taken-by (a .slot) (deviceIn (a .words .now)) (queuesOf (a .wanted))
     ∙ ap (λ (n : ℕ). someBelow n f) (sym last) ∙ l .inv .1)
 
 pub taken-spec : {M : Type 1} → statement M
