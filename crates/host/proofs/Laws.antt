@@ -1,6 +1,7 @@
 -- Setting either host mask, by one law; setting the configuration; one more queue of those that are unbound.
 -- Assumes nothing.
-use Prim.Native.Nat.{ℕ, _+_}
+use Prim.Native.Nat.{ℕ, _+_, _*_, _/_, _%_, _<_}
+use native.Mathlib.Omega.{arith}
 use native.Mathlib.Numerals.{add-one}
 use mathlib.Core.Bool.{Bool, true, false, cond, not, _&&_, _||_}
 use mathlib.Core.List.{List}
@@ -24,21 +25,32 @@ use Rattle.rules.specs.State.{HostMasks, slots, queues, inProduct}
 use Rattle.rules.specs.Queues.{reserved, configured}
 use Rattle.rules.specs.Commands.{reading, setHost, withHost, assignedElsewhere, answered, errnoOf, stateAfter, beyondLimits, stored, withConfig, configure}
 use Rattle.rules.proofs.Products.{elsewhere-anywhere}
-use Rattle.record.specs.Carried.{Configured, takenAway}
-use Rattle.record.specs.Layout.{apmaskAt, aqmaskAt, maskAt, deviceIn, limitsIn, configIn, stateIn, putFour, putConfig, wordsOf, unbind}
-use Rattle.record.proofs.Laws.{words-of}
-use Rattle.host.specs.Masks.{maskOr, withMask}
+use Rattle.record.specs.Carried.{memory, Carried}
+use Rattle.record.specs.Layout.{apmaskAt, aqmaskAt, maskAt, deviceIn, limitsIn, configIn, stateIn, putFour, putConfig, wordsOf, unbind, takenAway}
+use Rattle.record.proofs.Laws.{words-of, carried-refused, carried-granted}
+use Rattle.host.specs.Masks.{maskOr, withMask, gone, configured as configuredBy}
 
 -- the mask of a text has four words, by what owning it tells
 pub read-words : (r : MaskRead) {vs : List Val} → Is the-row r vs → Sized 64 4 (r .mask .words)
 read-words r h = mask-words (r .mask) (h .1 .1 .1 .0)
 
+-- a queue by its adapter and its domain
+pub queue-split : (k : ℕ) → k < queues → k / 256 % 256 * 256 + k % 256 ≡ k
+queue-split k h = omega arith
+
+-- a queue that was not configured, or still is, stays as it is, and one that goes is unbound
+pub stays : {A : Type 0} (w s : Bool) (a b : A) → (w && not s) ≡ false → b ≡ cond (w && not s) a b
+stays w s a b e = sym (ap (λ (t : Bool). cond t a b) e)
+
+pub goes : {A : Type 0} (w s : Bool) (a b : A) → w ≡ true → s ≡ false → a ≡ cond (w && not s) a b
+goes w s a b e f = sym (ap₂ (λ (x y : Bool). cond (x && not y) a b) e f)
+
 -- one queue more
-pub unbind-next : (qs : List ℕ) (gone : ℕ → Bool) (n : ℕ) (b : Bool) → b ≡ gone n
-    → cond b (set (unbind qs gone n) n 0) (unbind qs gone n) ≡ unbind qs gone (n + 1)
+pub unbind-next : (qs : List ℕ) (away : ℕ → Bool) (n : ℕ) (b : Bool) → b ≡ away n
+    → cond b (set (unbind qs away n) n 0) (unbind qs away n) ≡ unbind qs away (n + 1)
 unfolding unbind
-unbind-next qs gone n b e =
-    ap (λ (t : Bool). cond t (set (unbind qs gone n) n 0) (unbind qs gone n)) e ∙ ap (unbind qs gone) (sym (add-one n))
+unbind-next qs away n b e =
+    ap (λ (t : Bool). cond t (set (unbind qs away n) n 0) (unbind qs away n)) e ∙ ap (unbind qs away) (sym (add-one n))
 
 -- a text that is read as a host mask: the mask lies at word `at`, and `host` is both masks with it replaced
 module _ (text ws : List ℕ) (at : ℕ) (host : Bits → HostMasks) (old : Mask) (new : MaskRead) (was : bits old ≡ maskAt ws at)
@@ -70,7 +82,7 @@ module _ (text ws : List ℕ) (at : ℕ) (host : Bits → HostMasks) (old : Mask
         (sym (e ∙ ap₂ (λ (a b : Bits). someBelow queues (both a b)) same (elsewhere-anywhere (deviceIn ws))))
 
     -- the words that are put
-    pub put-words : Sized 64 4 (new .mask .words) → putFour ws at (new .mask .words) ≡ withMask ws at text
+    pub put-words : Sized 64 4 (new .mask .words) → putFour ws at (new .mask .words) ≡ withMask at text ws
     unfolding withMask maskOr
     put-words w = ap (putFour ws at) (sym (words-of w) ∙ ap wordsOf (ap (maskOr (maskAt ws at)) (sym read-as)))
 
@@ -107,7 +119,7 @@ module _ (g : Configuration) (ws qs : List ℕ) where
 
   -- the queues that are configured no more, by the masks before
   pub gone-away : (us ds : Bits) → us ≡ configIn ws .adapters → ds ≡ configIn ws .domains
-      → (λ k. inProduct us ds k && not (inProduct (bits (g .adapters)) (bits (g .domains)) k)) ≡ takenAway ws g
+      → gone (inProduct us ds) (inProduct (bits (g .adapters)) (bits (g .domains))) ≡ takenAway ws g
   unfolding takenAway configured stored
   gone-away us ds p q = λ i k. inProduct (p i) (q i) k && not (inProduct (bits (g .adapters)) (bits (g .domains)) k)
 
@@ -115,23 +127,11 @@ module _ (g : Configuration) (ws qs : List ℕ) where
   unfolding configure stateIn
   by-test t e = ap (λ (b : Bool). cond b (refused Enodev) (granted (withConfig (stored g) (stateIn ws qs)))) e
 
-  pub config-refused : beyondLimits (limitsIn ws) g ≡ true → Configured g ws ws qs qs (Refused Enodev)
-  unfolding answered errnoOf stateAfter numberOf
-  config-refused e =
-      record {
-        answer = sym (ap errnoOf (by-test true e));
-        state = sym (ap (stateAfter (stateIn ws qs)) (by-test true e));
-        words = refl;
-        drivers = refl;
-      }
+  pub config-refused : beyondLimits (limitsIn ws) g ≡ true → Carried (configure g) (configuredBy g) (memory ws qs) (memory ws qs) (Refused Enodev)
+  config-refused e = carried-refused (configure g) (configuredBy g) (memory ws qs) Enodev (by-test true e)
 
-  pub config-done : {after rs : List ℕ} → beyondLimits (limitsIn ws) g ≡ false → after ≡ putConfig ws g → rs ≡ unbind qs (takenAway ws g) queues
-      → stateIn (putConfig ws g) (unbind qs (takenAway ws g) queues) ≡ withConfig (stored g) (stateIn ws qs) → Configured g ws after qs rs Done
-  unfolding answered errnoOf stateAfter
-  config-done e p q s =
-      record {
-        answer = sym (ap errnoOf (by-test false e));
-        state = ap₂ stateIn p q ∙ s ∙ sym (ap (stateAfter (stateIn ws qs)) (by-test false e));
-        words = p;
-        drivers = q;
-      }
+  pub config-done : {vs rs : List ℕ} → beyondLimits (limitsIn ws) g ≡ false → vs ≡ putConfig ws g → rs ≡ unbind qs (takenAway ws g) queues
+      → stateIn (putConfig ws g) (unbind qs (takenAway ws g) queues) ≡ withConfig (stored g) (stateIn ws qs)
+      → Carried (configure g) (configuredBy g) (memory ws qs) (memory vs rs) Done
+  config-done {vs} {rs} e p q s =
+      carried-granted (configure g) (configuredBy g) (memory ws qs) (memory vs rs) (withConfig (stored g) (stateIn ws qs)) (ap₂ memory p q) (by-test false e) s

@@ -1,25 +1,30 @@
 // The host's side: apmask, aqmask and the configuration.
 //
-// Rests on errno, mask, masktext, rules, record and lookup.
+// Rests on errno, mask, masktext, product, rules, record and lookup.
 use errno::Errno;
-use mask::Mask;
+use mask::Apid;
+use mask::Apqi;
+use product::Product;
 use record::Drivers;
+use record::QUEUES;
 use record::SLOTS;
 use record::Words;
 use rules::Answer;
 use rules::Configuration;
+use rules::Driver;
 ghost use Prim.Native.Nat.{_<_};
-ghost use mathlib.Core.Bool.{not, _&&_};
+ghost use mathlib.Core.Bool.{cond};
 ghost use mathlib.Core.Path.{_≡_};
-ghost use Rattle.mask.specs.Bits.{bits};
-ghost use Rattle.rules.specs.State.{inProduct, queues};
+ghost use lib.ListN.{set};
+ghost use Rattle.rules.specs.State.{queues};
 ghost use Rattle.rules.specs.Commands.{setApmask, setAqmask};
-ghost use Rattle.record.specs.Layout.{apmaskAt, aqmaskAt, unbind};
-ghost use Rattle.record.specs.Carried.{Carried, Configured};
-ghost use Rattle.host.specs.Masks.{withMask};
+ghost use Rattle.record.specs.Layout.{unbind};
+ghost use Rattle.record.specs.Carried.{Obeys};
+ghost use Rattle.product.specs.Meet.{queuesOf};
+ghost use Rattle.host.specs.Masks.{withApmask, withAqmask, gone, Configures};
 
 pub fn set_apmask(words: &mut Words, text: &[u8]) -> Answer
-    ensures { λ r. ⌜ Carried (setApmask (now (text .entry))) (withMask (now (words .entry)) apmaskAt (now (text .entry))) (now (words .entry)) (now (words .exit)) r ⌝ }
+    ensures { λ r. ⌜ Obeys (setApmask (now (text .entry))) (withApmask (now (text .entry))) (words .entry) (words .exit) r ⌝ }
 {
     let old = record::apmask(words);
     let new = masktext::parse(text, old);
@@ -27,7 +32,11 @@ pub fn set_apmask(words: &mut Words, text: &[u8]) -> Answer
         return Answer::Refused(Errno::Einval);
     }
     let m = new.mask;
-    if lookup::taken(words, SLOTS, m, record::aqmask(words)) {
+    let reserved = Product {
+        adapters: m,
+        domains: record::aqmask(words),
+    };
+    if lookup::taken(words, SLOTS, reserved) {
         return Answer::Refused(Errno::Eaddrinuse);
     }
     record::hold_words(words);
@@ -36,7 +45,7 @@ pub fn set_apmask(words: &mut Words, text: &[u8]) -> Answer
 }
 
 pub fn set_aqmask(words: &mut Words, text: &[u8]) -> Answer
-    ensures { λ r. ⌜ Carried (setAqmask (now (text .entry))) (withMask (now (words .entry)) aqmaskAt (now (text .entry))) (now (words .entry)) (now (words .exit)) r ⌝ }
+    ensures { λ r. ⌜ Obeys (setAqmask (now (text .entry))) (withAqmask (now (text .entry))) (words .entry) (words .exit) r ⌝ }
 {
     let old = record::aqmask(words);
     let new = masktext::parse(text, old);
@@ -44,7 +53,11 @@ pub fn set_aqmask(words: &mut Words, text: &[u8]) -> Answer
         return Answer::Refused(Errno::Einval);
     }
     let m = new.mask;
-    if lookup::taken(words, SLOTS, record::apmask(words), m) {
+    let reserved = Product {
+        adapters: record::apmask(words),
+        domains: m,
+    };
+    if lookup::taken(words, SLOTS, reserved) {
         return Answer::Refused(Errno::Eaddrinuse);
     }
     record::hold_words(words);
@@ -54,64 +67,62 @@ pub fn set_aqmask(words: &mut Words, text: &[u8]) -> Answer
 
 // Replaces the configuration. A queue that is no longer configured is unbound at once.
 pub fn configure(words: &mut Words, drivers: &mut Drivers, configuration: Configuration) -> Answer
-    ensures { λ r. ⌜ Configured configuration (now (words .entry)) (now (words .exit)) (now (drivers .entry)) (now (drivers .exit)) r ⌝ }
+    ensures { λ r. ⌜ Configures configuration (words .entry) (words .exit) (drivers .entry) (drivers .exit) r ⌝ }
 {
     let adapters = configuration.adapters;
     let domains = configuration.domains;
     let controls = configuration.controls;
-    if adapters.exceeds(record::max_adapter(words)) {
+    if adapters.exceeds(record::max_adapter(words).0) {
         return Answer::Refused(Errno::Enodev);
     }
-    if domains.exceeds(record::max_domain(words)) {
+    if domains.exceeds(record::max_domain(words).0) {
         return Answer::Refused(Errno::Enodev);
     }
-    if controls.exceeds(record::max_domain(words)) {
+    if controls.exceeds(record::max_domain(words).0) {
         return Answer::Refused(Errno::Enodev);
     }
     record::hold_words(words);
     record::hold_drivers(drivers);
+    let was = Product {
+        adapters: record::configured_adapters(words),
+        domains: record::configured_domains(words),
+    };
     unbind(
         drivers,
-        record::configured_adapters(words),
-        record::configured_domains(words),
-        adapters,
-        domains,
+        was,
+        Product {
+            adapters: adapters,
+            domains: domains,
+        },
     );
     record::put_configuration(words, configuration);
     Answer::Done
 }
 
-// Clears the drivers of the queues that were configured and are not any more.
-fn unbind(drivers: &mut Drivers, was_adapters: Mask, was_domains: Mask, adapters: Mask, domains: Mask)
-    ensures { λ r. ⌜ now (drivers .exit) ≡ unbind (now (drivers .entry)) (λ queue. inProduct (bits «was_adapters») (bits «was_domains») queue && not (inProduct (bits adapters) (bits domains) queue)) queues ⌝ }
+// Unbinds the queues that were configured and are not any more.
+fn unbind(drivers: &mut Drivers, was: Product, is: Product)
+    ensures { λ r. ⌜ now (drivers .exit) ≡ unbind (now (drivers .entry)) (gone (queuesOf was) (queuesOf is)) queues ⌝ }
 {
     let mut queue = 0usize;
-    while queue < 65536 {
-        if gone(was_adapters, was_domains, adapters, domains, queue) {
-            drivers[queue] = 0;
-        }
+    while queue < QUEUES {
+        unbind_gone(drivers, was, is, queue);
         queue += 1;
     }
 }
 
-// Whether a queue was configured and is not any more.
-fn gone(was_adapters: Mask, was_domains: Mask, adapters: Mask, domains: Mask, queue: usize) -> bool
-    requires { ⌜ queue < 65536 ⌝ }
-    ensures { λ r. ⌜ r ≡ (inProduct (bits «was_adapters») (bits «was_domains») queue && not (inProduct (bits adapters) (bits domains) queue)) ⌝ }
+// Unbinds one queue, if it was configured and is not any more.
+fn unbind_gone(drivers: &mut Drivers, was: Product, is: Product, queue: usize)
+    requires { ⌜ queue < queues ⌝ }
+    ensures { λ r. ⌜ now (drivers .exit)
+        ≡ cond (gone (queuesOf was) (queuesOf is) queue) (set (now (drivers .entry)) queue 0) (now (drivers .entry)) ⌝ }
 {
-    if in_product(was_adapters, was_domains, queue) {
-        return !in_product(adapters, domains, queue);
+    let adapter = Apid((queue / 256 % 256) as u8);
+    let domain = Apqi((queue % 256) as u8);
+    if !was.has(adapter, domain) {
+        return;
     }
-    false
-}
-
-// Whether a queue is in a product.
-fn in_product(adapters: Mask, domains: Mask, queue: usize) -> bool
-    requires { ⌜ queue < 65536 ⌝ }
-    ensures { λ r. ⌜ r ≡ inProduct (bits adapters) (bits domains) queue ⌝ }
-{
-    if adapters.has((queue / 256 % 256) as u8) {
-        return domains.has((queue % 256) as u8);
+    if is.has(adapter, domain) {
+        return;
     }
-    false
+    record::put_driver(drivers, adapter, domain, Driver::Unbound);
 }

@@ -739,7 +739,7 @@ module _ (zs qs : List ℕ) (a d : ℕ) (long : length zs ≡ wordCount) (none :
       same-state (stateIn (freshOver zs a d) qs) (fresh (record { adapter = a; domain = d })) (fresh-limits ha hd) fresh-host fresh-config (fun-ext fresh-device)
       (fun-ext (λ q. ap driverOf (no-driver q) ∙ unbound-zero))
 
-pub read-fresh : (a d : ℕ) → a ≤ 255 → d ≤ 255 → stateIn (freshWords a d) (replicate 65536 0) ≡ fresh (record { adapter = a; domain = d })
+pub read-fresh : (a d : ℕ) → a ≤ 255 → d ≤ 255 → stateIn (freshWords a d) (replicate queues 0) ≡ fresh (record { adapter = a; domain = d })
 unfolding freshWords
 read-fresh a d ha hd = fresh-over (replicate wordCount 0) (replicate 65536 0) a d (length-replicate {A = ℕ} wordCount 0) (zero-at wordCount) (zero-at 65536) ha hd
 

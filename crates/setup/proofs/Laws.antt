@@ -1,42 +1,35 @@
 -- A refused and a granted call of `fresh`.
 -- Assumes nothing.
 use Prim.Native.Nat.{ℕ, _<_, _≤_}
-use native.Mathlib.Omega.{arith}
-use mathlib.Core.Bool.{Bool, true, false, cond, _&&_, and-false}
-use mathlib.Core.List.{List}
+use mathlib.Core.Bool.{Bool, cond, _&&_, and-false}
 use mathlib.Core.Logic.{_⊎_, inl, inr}
-use mathlib.Core.Path.{_≡_, refl, sym, ap, ap₂, subst, _∙_}
+use mathlib.Core.Path.{_≡_, ap, ap₂, _∙_}
 use lib.Dec.{leb}
-use lib.ListN.{replicate}
 use borrow.Author.Tests.{le-leb, lt-leb}
+use Rattle.errno.specs.Outcome.{Outcome, granted, refused}
 use Rattle.errno.specs.declared.Errno.the-variants.{Einval}
-use Rattle.errno.specs.Errno.{numberOf}
 use Rattle.rules.specs.declared.Answer.the-variants.{Done, Refused}
-use Rattle.rules.specs.State.{fresh}
-use Rattle.rules.specs.Commands.{answered}
-use Rattle.record.specs.Layout.{stateIn, freshWords}
-use Rattle.record.proofs.Laws.{read-fresh}
-use Rattle.setup.specs.Fresh.{limitErrno, Freshened}
+use Rattle.rules.specs.State.{State, fresh}
+use Rattle.record.specs.Carried.{Memory, read, Carried}
+use Rattle.record.proofs.Laws.{read-fresh, carried-refused, carried-granted}
+use Rattle.setup.specs.Fresh.{start, freshMemory}
 
-above : (a d : ℕ) → (255 < a) ⊎ (255 < d) → limitErrno a d ≡ 22
-unfolding limitErrno
-above a d (inl h) = ap (λ (b : Bool). cond (b && leb d 255) 0 22) (lt-leb a 255 h)
-above a d (inr h) = ap (λ (b : Bool). cond (leb a 255 && b) 0 22) (lt-leb d 255 h) ∙ ap (λ (b : Bool). cond b 0 22) (and-false (leb a 255))
+module _ (a d : ℕ) where
+  made : State
+  made = fresh (record { adapter = a; domain = d })
 
-within : (a d : ℕ) → a ≤ 255 → d ≤ 255 → limitErrno a d ≡ 0
-unfolding limitErrno
-within a d h k = ap₂ (λ (x y : Bool). cond (x && y) 0 22) (le-leb a 255 h) (le-leb d 255 k)
+  above : (s : State) → (255 < a) ⊎ (255 < d) → start a d s ≡ refused Einval
+  unfolding start made
+  above s (inl h) = ap (λ (b : Bool). cond (b && leb d 255) (granted made) (refused Einval)) (lt-leb a 255 h)
+  above s (inr h) =
+      ap (λ (b : Bool). cond (leb a 255 && b) (granted made) (refused Einval)) (lt-leb d 255 h)
+      ∙ ap (λ (b : Bool). cond b (granted made) (refused Einval)) (and-false (leb a 255))
 
-pub refuses : (a d : ℕ) (ws qs : List ℕ) → (255 < a) ⊎ (255 < d) → Freshened a d ws ws qs qs (Refused Einval)
-unfolding answered numberOf
-refuses a d ws qs h = record { answer = sym (above a d h); words = refl; drivers = refl; state = λ e. absurd (omega arith) }
+  pub refuses : (m : Memory) → (255 < a) ⊎ (255 < d) → Carried (start a d) (λ n. freshMemory a d) m m (Refused Einval)
+  refuses m h = carried-refused (start a d) (λ n. freshMemory a d) m Einval (above (read m) h)
 
-pub makes : (a d : ℕ) (ws vs qs rs : List ℕ) → a ≤ 255 → d ≤ 255 → vs ≡ freshWords a d → rs ≡ replicate 65536 0 → Freshened a d ws vs qs rs Done
-unfolding answered
-makes a d ws vs qs rs h k e f =
-    record {
-      answer = sym (within a d h k);
-      words = e;
-      drivers = f;
-      state = λ z. ap₂ stateIn e f ∙ read-fresh a d h k;
-    }
+  pub makes : (m n : Memory) → a ≤ 255 → d ≤ 255 → n ≡ freshMemory a d → Carried (start a d) (λ n. freshMemory a d) m n Done
+  unfolding start made
+  makes m n h k e =
+      carried-granted (start a d) (λ n. freshMemory a d) m n made e
+      (ap₂ (λ (x y : Bool). cond (x && y) (granted made) (refused Einval)) (le-leb a 255 h) (le-leb d 255 k)) (read-fresh a d h k)

@@ -1,23 +1,25 @@
 -- Making a fresh record.
 -- Assumes nothing.
 use Prim.Native.Nat.{ℕ}
-use mathlib.Core.Bool.{Bool, true, cond, _&&_}
-use mathlib.Core.List.{List}
-use mathlib.Core.Path.{_≡_}
+use mathlib.Core.Bool.{cond, _&&_}
 use lib.ListN.{replicate}
-use lib.Dec.{leb, eqb}
+use lib.Dec.{leb}
+use Rattle.errno.specs.Outcome.{Outcome, granted, refused}
+use Rattle.errno.specs.declared.Errno.the-variants.{Einval}
 use Rattle.rules.specs.declared.Answer.{Answer}
-use Rattle.rules.specs.State.{queues, fresh}
-use Rattle.rules.specs.Commands.{answered}
-use Rattle.record.specs.Layout.{stateIn, freshWords}
+use Rattle.rules.specs.State.{State, queues, fresh}
+use Rattle.record.specs.Layout.{freshWords}
+use Rattle.record.specs.Lent.{Lent}
+use Rattle.record.specs.Carried.{Memory, memory, ObeysBoth}
 
--- the errno value: EINVAL for a limit above 255, else 0
-unfoldable pub limitErrno : ℕ → ℕ → ℕ
-limitErrno a d = cond (leb a 255 && leb d 255) 0 22
+-- a fresh record of limits a and d, whatever was there; EINVAL for a limit above 255
+unfoldable pub start : ℕ → ℕ → State → Outcome State
+start a d s = cond (leb a 255 && leb d 255) (granted (fresh (record { adapter = a; domain = d }))) (refused Einval)
 
--- a call with limits a and d, on the words `before` and the driver bytes `qs`, which it leaves as `after` and `rs`
-pub record Freshened (a d : ℕ) (before after qs rs : List ℕ) (r : Answer) : Type 0 where
-  pub answer : answered r ≡ limitErrno a d
-  pub words : after ≡ cond (eqb (answered r) 0) (freshWords a d) before
-  pub drivers : rs ≡ cond (eqb (answered r) 0) (replicate 65536 0) qs
-  pub state : answered r ≡ 0 → stateIn after rs ≡ fresh (record { adapter = a; domain = d })
+-- its memory: every byte is written
+abbrev pub freshMemory : ℕ → ℕ → Memory
+freshMemory a d = memory (freshWords a d) (replicate queues 0)
+
+-- a call with limits a and d, of lent memory at entry and at exit
+abbrev pub Freshens : ℕ → ℕ → Lent → Lent → Lent → Lent → Answer → Type 0
+Freshens a d words words′ drivers drivers′ r = ObeysBoth (start a d) (λ m. freshMemory a d) words words′ drivers drivers′ r

@@ -92,7 +92,7 @@ returns-4 c =
     (c .put-configuration .ensures)
     (c .before .before .unbind .ensures
     ∙ ap (λ (u : Bits). unbind qs u queues)
-    (gone-away g ws qs _ _ (c .before .before .before .before .before .configured-adapters .ensures) (c .before .before .before .configured-domains .ensures)))
+    (gone-away g ws qs _ _ (c .before .before .before .before .before .before .configured-adapters .ensures) (c .before .before .before .before .configured-domains .ensures)))
     (read-config ws g (c .before .before .before .before .before .before .before .before .before .before .hold-words .ensures .long) (adapters-words g owned) (domains-words g owned) (controls-words g owned) qs
     (c .before .before .before .before .before .before .before .before .hold-drivers .ensures .long))
 
