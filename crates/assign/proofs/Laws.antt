@@ -12,7 +12,6 @@ use Rattle.errno.specs.Outcome.{Outcome, granted, refused}
 use Rattle.errno.specs.declared.Errno.the-variants.{Enodev, Einval, Eaddrinuse, Eaddrnotavail}
 use Rattle.mask.specs.declared.Mask.{Mask}
 use Rattle.mask.specs.Bits.{Sized, Bits, bits, someBelow, both, included, noBits}
-
 use Rattle.number.specs.Text.{numberText}
 use Rattle.rules.specs.declared.Answer.{Answer}
 use Rattle.rules.specs.declared.Answer.the-variants.{Refused}

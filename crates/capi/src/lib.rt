@@ -35,7 +35,12 @@ ghost use Rattle.capi.specs.Shown.{maskBytes, MasksShown, ListShown};
 
 // Makes the lent memory a fresh record.
 #[no_mangle]
-pub extern "C" fn zk_fresh(words: &mut Words, drivers: &mut Drivers, adapter: u64, domain: u64) -> u8
+pub extern "C" fn zk_fresh(
+    words: &mut Words,
+    drivers: &mut Drivers,
+    adapter: u64,
+    domain: u64,
+) -> u8
     ensures { λ r. ⌜ Numbered (Freshened adapter domain (now (words .entry)) (now (words .exit)) (now (drivers .entry)) (now (drivers .exit))) r ⌝ }
 {
     rules::answer_number(setup::fresh(words, drivers, adapter, domain))
@@ -101,7 +106,11 @@ pub extern "C" fn zk_set_aqmask(words: &mut Words, text: &[u8]) -> u8
 
 // Three masks of 32 bytes in mask order, then 256 hardware types.
 #[no_mangle]
-pub extern "C" fn zk_configure(words: &mut Words, drivers: &mut Drivers, configuration: &[u8; 352]) -> u8
+pub extern "C" fn zk_configure(
+    words: &mut Words,
+    drivers: &mut Drivers,
+    configuration: &[u8; 352],
+) -> u8
     ensures { λ r. ⌜ Numbered (Configured (configurationOf (now (configuration .entry))) (now (words .entry)) (now (words .exit)) (now (drivers .entry)) (now (drivers .exit))) r ⌝ }
 {
     rules::answer_number(host::configure(words, drivers, encoding::configuration_of(configuration)))

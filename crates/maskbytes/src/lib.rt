@@ -52,13 +52,13 @@ fn word_of(b: [u8; 32], q: usize) -> u64
     ensures { λ r. ⌜ r ≡ number 64 (bitAt 8 b) (q * 64) ⌝ }
 {
     let i = 8 * q;
-    let hi = four(b[i], b[i + 1], b[i + 2], b[i + 3]);
-    let lo = four(b[i + 4], b[i + 5], b[i + 6], b[i + 7]);
+    let hi = big_endian(b[i], b[i + 1], b[i + 2], b[i + 3]);
+    let lo = big_endian(b[i + 4], b[i + 5], b[i + 6], b[i + 7]);
     hi * 4294967296 + lo
 }
 
 // The number that has these four bytes, the first of which is the most significant.
-fn four(a: u8, b: u8, c: u8, d: u8) -> u64
+pub fn big_endian(a: u8, b: u8, c: u8, d: u8) -> u64
     ensures { λ r. ⌜ (r ≡ ((a * 256 + b) * 256 + c) * 256 + d) × (r < 4294967296) ⌝ }
 {
     ((a as u64 * 256 + b as u64) * 256 + c as u64) * 256 + d as u64

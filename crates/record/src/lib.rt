@@ -24,11 +24,17 @@ pub const SLOTS: usize = 8;
 
 // Where the parts lie: two limits, five masks of four words each, a hardware type for each of 256 adapters, the slots.
 const APMASK: usize = 2;
+
 const AQMASK: usize = 6;
+
 const ADAPTERS: usize = 10;
+
 const DOMAINS: usize = 14;
+
 const CONTROLS: usize = 18;
+
 const TYPES: usize = 22;
+
 const FIRST_SLOT: usize = 278;
 
 // The words of a slot.
@@ -41,6 +47,7 @@ pub const WORDS: usize = FIRST_SLOT + SLOTS * SLOT_WORDS;
 pub const QUEUES: usize = 65536;
 
 pub type Words = [u64; WORDS];
+
 pub type Drivers = [u8; QUEUES];
 
 // A reference to an array says how long it is only where it becomes a slice. These two do nothing but state that.

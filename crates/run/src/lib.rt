@@ -52,11 +52,25 @@ fn step(words: &mut Words, drivers: &mut Drivers, bytes: &[u8]) -> u8
         1 => rules::answer_number(devices::remove(words, encoding::id_of(bytes))),
         2 => rules::answer_number(devices::open(words, encoding::id_of(bytes))),
         3 => rules::answer_number(devices::close(words, encoding::id_of(bytes))),
-        4 => rules::answer_number(assign::assign(words, encoding::kind_of(bytes[1]), encoding::id_of(bytes), &bytes[20..])),
-        5 => rules::answer_number(assign::unassign(words, encoding::kind_of(bytes[1]), encoding::id_of(bytes), &bytes[20..])),
+        4 => rules::answer_number(assign::assign(
+            words,
+            encoding::kind_of(bytes[1]),
+            encoding::id_of(bytes),
+            &bytes[20..],
+        )),
+        5 => rules::answer_number(assign::unassign(
+            words,
+            encoding::kind_of(bytes[1]),
+            encoding::id_of(bytes),
+            &bytes[20..],
+        )),
         6 => rules::answer_number(host::set_apmask(words, &bytes[20..])),
         7 => rules::answer_number(host::set_aqmask(words, &bytes[20..])),
-        8 => rules::answer_number(host::configure(words, drivers, encoding::configuration_of(&bytes[20..]))),
+        8 => rules::answer_number(host::configure(
+            words,
+            drivers,
+            encoding::configuration_of(&bytes[20..]),
+        )),
         _ => make_move(words, drivers, bytes[2], bytes[3]),
     }
 }
@@ -69,4 +83,3 @@ fn make_move(words: &Words, drivers: &mut Drivers, adapter: u8, domain: u8) -> u
     record::hold_drivers(drivers);
     rules::moved_number(bind::move_queue(words, drivers, Apid(adapter), Apqi(domain)))
 }
-

@@ -19,7 +19,11 @@ pub fn fresh(words: &mut Words, drivers: &mut Drivers, adapter: u64, domain: u64
     if 255 < domain {
         return Answer::Refused(Errno::Einval);
     }
-    record::put_fresh(words, Apid((adapter % 256) as u8), Apqi((domain % 256) as u8));
+    record::put_fresh(
+        words,
+        Apid((adapter % 256) as u8),
+        Apqi((domain % 256) as u8),
+    );
     record::put_unbound(drivers);
     Answer::Done
 }

@@ -12,17 +12,8 @@ use Rattle.encoding.proofs.size_at.Tie as tie
 returns : tie.Need-returns
 returns c = sym (none-left (now (c .before .args .bytes)) (c .before .args .at) (omega arith))
 
-sub-left : tie.Need-sub-left
-sub-left c = search needs
-
 returns-2 : tie.Need-returns-2
 returns-2 c = sym (none-left (now (c .before .before .args .bytes)) (c .before .before .args .at) (omega arith))
-
-add-size : tie.Need-add-size
-add-size c = search needs
-
-shared-slice-read-size : tie.Need-shared-slice-read-size
-shared-slice-read-size c = search needs
 
 cast-size : tie.Need-cast-size
 cast-size c =
@@ -33,12 +24,6 @@ mul-size : tie.Need-mul-size
 mul-size c =
     let at = c .before .before .before .args .at in
     omega (arith, c .shared-slice-known .given (at + 18), c .shared-slice-known .given (at + 19))
-
-add-size-2 : tie.Need-add-size-2
-add-size-2 c = search needs
-
-shared-slice-read-size-2 : tie.Need-shared-slice-read-size-2
-shared-slice-read-size-2 c = search needs
 
 cast-size-2 : tie.Need-cast-size-2
 cast-size-2 c =
@@ -70,14 +55,14 @@ size-at-spec =
     tie.close
     (tie.spec
     returns
-    sub-left
+    (λ c. search needs)
     returns-2
-    add-size
-    shared-slice-read-size
+    (λ c. search needs)
+    (λ c. search needs)
     cast-size
     mul-size
-    add-size-2
-    shared-slice-read-size-2
+    (λ c. search needs)
+    (λ c. search needs)
     cast-size-2
     add-size-3
     add-size-4

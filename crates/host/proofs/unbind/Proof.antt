@@ -32,7 +32,7 @@ loop-again c =
     let away = gone (queuesOf (a .was)) (queuesOf (a .is)) in (
       omega arith,
       c .unbind-gone .ensures ∙ ap (λ (qs : List ℕ). cond (away (l .queue)) (set qs (l .queue) 0) qs) (l .inv .1)
-      ∙ unbind-next (a .drivers .now) away (l .queue) (away (l .queue)) refl,
+          ∙ unbind-next (a .drivers .now) away (l .queue) (away (l .queue)) refl,
     )
 
 returns : tie.Need-returns Inv-loop μ-loop

@@ -20,27 +20,6 @@ Inv-loop w out₀ i₀ out i = (i ≤ 32) × (length out ≡ 32) × ((q : ℕ) �
 abbrev μ-loop : tie.MeasureT-loop
 μ-loop w out₀ i₀ out i = 32 - i
 
-loop-holds : tie.Need-loop-holds Inv-loop μ-loop
-loop-holds c = search needs
-
-mul-byte-of : tie.Need-mul-byte-of Inv-loop μ-loop
-mul-byte-of c = search needs
-
-array-read-byte-of : tie.Need-array-read-byte-of Inv-loop μ-loop
-array-read-byte-of c = search needs
-
-byte-of-requires : tie.Need-byte-of-requires Inv-loop μ-loop
-byte-of-requires c κs = search needs
-
-array-write-out : tie.Need-array-write-out Inv-loop μ-loop
-array-write-out c = search needs
-
-add-i : tie.Need-add-i Inv-loop μ-loop
-add-i c = search needs
-
-loop-less : tie.Need-loop-less Inv-loop μ-loop
-loop-less c = search needs
-
 loop-again : tie.Need-loop-again Inv-loop μ-loop
 loop-again c =
     let l = c .before .before .loop in
@@ -65,12 +44,12 @@ to-bytes-spec =
     (tie.spec
     Inv-loop
     μ-loop
-    loop-holds
-    mul-byte-of
-    array-read-byte-of
-    byte-of-requires
-    array-write-out
-    add-i
-    loop-less
+    (λ c. search needs)
+    (λ c. search needs)
+    (λ c. search needs)
+    (λ c κs. search needs)
+    (λ c. search needs)
+    (λ c. search needs)
+    (λ c. search needs)
     loop-again
     returns)

@@ -13,39 +13,6 @@ use borrow.Author.Needs.{needs}
 use Rattle.maskbytes.proofs.with_nibble.Statement.{statement}
 use Rattle.maskbytes.proofs.with_nibble.Tie as tie
 
-cast-k : tie.Need-cast-k
-cast-k c = search needs
-
-mul-w : tie.Need-mul-w
-mul-w c = search needs
-
-array-read-w : tie.Need-array-read-w
-array-read-w c = search needs
-
-cast-w : tie.Need-cast-w
-cast-w c = search needs
-
-cast-w-2 : tie.Need-cast-w-2
-cast-w-2 c = search needs
-
-mul-w-2 : tie.Need-mul-w-2
-mul-w-2 c = search needs
-
-sub-w : tie.Need-sub-w
-sub-w c = search needs
-
-cast-w-3 : tie.Need-cast-w-3
-cast-w-3 c = search needs
-
-shl-w : tie.Need-shl-w
-shl-w c = search needs
-
-mul-w-3 : tie.Need-mul-w-3
-mul-w-3 c = search needs
-
-array-write-w : tie.Need-array-write-w
-array-write-w c = search needs
-
 returns : tie.Need-returns
 unfolding either
 returns c =
@@ -62,15 +29,15 @@ pub with-nibble-spec : {M : Type 1} → statement M
 with-nibble-spec =
     tie.close
     (tie.spec
-    cast-k
-    mul-w
-    array-read-w
-    cast-w
-    cast-w-2
-    mul-w-2
-    sub-w
-    cast-w-3
-    shl-w
-    mul-w-3
-    array-write-w
+    (λ c. search needs)
+    (λ c. search needs)
+    (λ c. search needs)
+    (λ c. search needs)
+    (λ c. search needs)
+    (λ c. search needs)
+    (λ c. search needs)
+    (λ c. search needs)
+    (λ c. search needs)
+    (λ c. search needs)
+    (λ c. search needs)
     returns)

@@ -8,34 +8,16 @@ use lib.Seq.{getD-set-same, getD-set-other}
 use borrow.Author.Count.{below-more}
 use denote.Ref.{now}
 use Rattle.mask.proofs.Laws.{mask-words}
-use Rattle.encoding.proofs.Laws.{same-mask}
+use Rattle.fields.proofs.Laws.{same-mask}
 use borrow.Author.Needs.{needs}
-use Rattle.encoding.proofs.mask_of.Statement.{statement}
-use Rattle.encoding.proofs.mask_of.Tie as tie
+use Rattle.fields.proofs.mask_of.Statement.{statement}
+use Rattle.fields.proofs.mask_of.Tie as tie
 
 abbrev Inv-loop : tie.InvT-loop
 Inv-loop b k bytes₀ i₀ bytes i = (i ≤ 32) × (length bytes ≡ 32) × ((j : ℕ) → j < i → getD bytes j 0 ≡ getD b (k + j) 0)
 
 abbrev μ-loop : tie.MeasureT-loop
 μ-loop b k bytes₀ i₀ bytes i = 32 - i
-
-loop-holds : tie.Need-loop-holds Inv-loop μ-loop
-loop-holds c = search needs
-
-add-byte-at : tie.Need-add-byte-at Inv-loop μ-loop
-add-byte-at c = search needs
-
-byte-at-requires : tie.Need-byte-at-requires Inv-loop μ-loop
-byte-at-requires c κs = search needs
-
-array-write-out : tie.Need-array-write-out Inv-loop μ-loop
-array-write-out c = search needs
-
-add-i : tie.Need-add-i Inv-loop μ-loop
-add-i c = search needs
-
-loop-less : tie.Need-loop-less Inv-loop μ-loop
-loop-less c = search needs
 
 loop-again : tie.Need-loop-again Inv-loop μ-loop
 loop-again c =
@@ -47,9 +29,6 @@ loop-again c =
           (λ j h. kept j h ∙ l .inv .2 j h)
           (getD-set-same (l .out) (l .i) (c .byte-at .result) 0 (omega arith) ∙ c .byte-at .ensures),
     )
-
-from-bytes-requires : tie.Need-from-bytes-requires Inv-loop μ-loop
-from-bytes-requires c κs = search needs
 
 returns : tie.Need-returns Inv-loop μ-loop
 returns c =
@@ -63,12 +42,12 @@ mask-of-spec =
     (tie.spec
     Inv-loop
     μ-loop
-    loop-holds
-    add-byte-at
-    byte-at-requires
-    array-write-out
-    add-i
-    loop-less
+    (λ c. search needs)
+    (λ c. search needs)
+    (λ c κs. search needs)
+    (λ c. search needs)
+    (λ c. search needs)
+    (λ c. search needs)
     loop-again
-    from-bytes-requires
+    (λ c κs. search needs)
     returns)

@@ -1,9 +1,9 @@
 -- `kind_of` meets its contract.
 -- Assumes nothing.
 use borrow.Author.Tests.{eq-eqb, ne-eqb}
-use Rattle.encoding.specs.Encoding.{kindOf}
-use Rattle.encoding.proofs.kind_of.Statement.{statement}
-use Rattle.encoding.proofs.kind_of.Tie as tie
+use Rattle.fields.specs.Fields.{kindOf}
+use Rattle.fields.proofs.kind_of.Statement.{statement}
+use Rattle.fields.proofs.kind_of.Tie as tie
 
 returns : tie.Need-returns
 unfolding kindOf

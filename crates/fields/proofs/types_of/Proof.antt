@@ -7,34 +7,16 @@ use lib.ListN.{length, getD, set}
 use lib.Seq.{getD-set-same, getD-set-other}
 use borrow.Author.Count.{below-more}
 use denote.Ref.{now}
-use Rattle.encoding.proofs.Laws.{same-bytes}
+use Rattle.fields.proofs.Laws.{same-bytes}
 use borrow.Author.Needs.{needs}
-use Rattle.encoding.proofs.types_of.Statement.{statement}
-use Rattle.encoding.proofs.types_of.Tie as tie
+use Rattle.fields.proofs.types_of.Statement.{statement}
+use Rattle.fields.proofs.types_of.Tie as tie
 
 abbrev Inv-loop : tie.InvT-loop
 Inv-loop b types₀ i₀ types i = (i ≤ 256) × (length types ≡ 256) × ((j : ℕ) → j < i → getD types j 0 ≡ getD b (96 + j) 0)
 
 abbrev μ-loop : tie.MeasureT-loop
 μ-loop b types₀ i₀ types i = 256 - i
-
-loop-holds : tie.Need-loop-holds Inv-loop μ-loop
-loop-holds c = search needs
-
-add-byte-at : tie.Need-add-byte-at Inv-loop μ-loop
-add-byte-at c = search needs
-
-byte-at-requires : tie.Need-byte-at-requires Inv-loop μ-loop
-byte-at-requires c κs = search needs
-
-array-write-types : tie.Need-array-write-types Inv-loop μ-loop
-array-write-types c = search needs
-
-add-i : tie.Need-add-i Inv-loop μ-loop
-add-i c = search needs
-
-loop-less : tie.Need-loop-less Inv-loop μ-loop
-loop-less c = search needs
 
 loop-again : tie.Need-loop-again Inv-loop μ-loop
 loop-again c =
@@ -58,11 +40,11 @@ types-of-spec =
     (tie.spec
     Inv-loop
     μ-loop
-    loop-holds
-    add-byte-at
-    byte-at-requires
-    array-write-types
-    add-i
-    loop-less
+    (λ c. search needs)
+    (λ c. search needs)
+    (λ c κs. search needs)
+    (λ c. search needs)
+    (λ c. search needs)
+    (λ c. search needs)
     loop-again
     returns)
