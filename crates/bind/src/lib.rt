@@ -127,15 +127,6 @@ fn due_by(driver: Driver, target: Driver) -> u32
     }
 }
 
-// The moves that the queue still needs.
-fn due_at(words: &Words, drivers: &Drivers, queue: usize) -> u32
-    requires { ⌜ queue < queues ⌝ }
-    ensures { λ r. ⌜ r ≡ dueAt (state (words .entry) (drivers .entry)) queue ⌝ }
-{
-    let need = need_at(words, drivers, queue);
-    need.due
-}
-
 // What the queue needs. Its target is computed once.
 fn need_at(words: &Words, drivers: &Drivers, queue: usize) -> Need
     requires { ⌜ queue < queues ⌝ }
@@ -156,7 +147,8 @@ pub fn remaining(words: &Words, drivers: &Drivers) -> u32
     let mut sum: u32 = 0;
     let mut queue = 0usize;
     while queue < record::QUEUES {
-        sum += due_at(words, drivers, queue);
+        let need = need_at(words, drivers, queue);
+        sum += need.due;
         queue += 1;
     }
     sum

@@ -1,35 +1,34 @@
 -- The service's rules and the reference model agree on every command, whatever the drivers are.
 -- Assumes nothing.
 use Prim.Native.Nat.{ℕ, zero, suc, _+_, _*_, _/_, _%_, _<_, _≤_}
-use native.Mathlib.Nat.{mod-lt, div-lt-iff-lt-mul, not-le-of-lt}
+use native.Mathlib.Nat.{mod-lt, div-lt-iff-lt-mul}
 use native.Mathlib.Omega.{arith}
-use mathlib.Core.Bool.{Bool, true, false, cond, not, _&&_, _||_, true≢false, false≢true}
+use mathlib.Core.Bool.{Bool, true, false, cond, not, _&&_, _||_, true≢false}
 use mathlib.Core.List.{List, [], _∷_}
 use mathlib.Core.Path.{_≡_, refl, sym, ap, ap₂, subst, _∙_, fun-ext}
-use mathlib.Core.Logic.{⊎-elim}
 use lib.Dec.{eqb, ltb, leb, lit<}
-use borrow.Author.Tests.{lt-ltb, le-ltb, ltb-true, ltb-false, le-leb, lt-leb, leb-true, leb-false, eqb-true, eq-eqb}
+use borrow.Author.Tests.{lt-ltb, le-ltb, ltb-true, ltb-false, leb-true, leb-false, eqb-true}
 use Rattle.errno.specs.Outcome.{Outcome, granted, refused}
 use Rattle.errno.specs.Errno.{numberOf}
 use Rattle.errno.specs.declared.Errno.{Errno}
 use Rattle.errno.specs.declared.Errno.the-variants.{Enoent, Ebusy, Eexist, Enodev, Einval, Enospc, Eaddrinuse, Eaddrnotavail}
 use Rattle.mask.specs.Bits.{Bits, bits, someBelow, both, bitsAbove, included, excluded, noBits, allBits}
-use Rattle.mask.proofs.Laws.{same-test, some-intro, some-elim, some-none, none-some, some-cong}
+use Rattle.mask.proofs.Laws.{same-test, some-intro, some-elim, none-some, some-cong}
 use Rattle.number.specs.Text.{numberText}
 use Rattle.masktext.specs.Text.{maskText}
 use Rattle.rules.specs.declared.Id.{Id}
 use Rattle.rules.specs.declared.Kind.{Kind}
 use Rattle.rules.specs.declared.Kind.the-variants.{Adapter, Domain, Control}
 use Rattle.rules.specs.declared.Configuration.{Configuration}
-use Rattle.rules.specs.State.{Limits, HostMasks, Config, Device, Devices, State, slots, queues, inProduct, noDevice, fresh}
+use Rattle.rules.specs.State.{Limits, Device, State, slots, queues, inProduct, noDevice, fresh}
 use Rattle.rules.specs.Queues as Queues
 use Rattle.rules.specs.Commands as Commands
 use Rattle.rules.specs.Commands.{errnoOf, stateAfter, slotOf, freeSlot, sameId, firstFrom, withDevice, withHost, withConfig, onDevice, reading, newDevice, withOpen, numbersOf, withNumbers, limitOf, single, paired, adding, assignAt, setHost, stored, beyondLimits, product, assigned, assignedElsewhere}
-use Rattle.rules.proofs.First.{first-le, first-holds, first-before}
+use Rattle.rules.proofs.First.{first-holds, first-before}
 use Rattle.rules.proofs.Products.{queue-apid, queue-apqi, queue-below}
 use Rattle.rules.proofs.Refusals.{same-numbers}
 use Rattle.model.specs.Steps.{Command, create, remove, openIt, closeIt, assign, unassign, setApmask, setAqmask, configure, Step, command, move, rule, after, afterAll, answers, commandsOf, queueOf}
-use Rattle.model.specs.Model.{Model, Check, Reply, most, somePair, named, known, room, lowest, slot, its, holds, anotherHolds, someHolds, reserved, has, new, highest, bitAbove, put, bare, nobody, marked, turned, turn, masked, given, judged, withText, reply, start, replies, kept}
+use Rattle.model.specs.Model.{Model, Reply, most, somePair, named, known, room, lowest, slot, its, holds, anotherHolds, someHolds, reserved, new, highest, bitAbove, put, bare, nobody, marked, turned, turn, masked, given, judged, withText, reply, start, replies, kept}
 
 -- a state without its drivers, as the model keeps it
 unfoldable pub erase : State → Model
