@@ -145,11 +145,9 @@ pub fn remaining(words: &Words, drivers: &Drivers) -> u32
     ensures { λ r. ⌜ Remains (words .entry) (drivers .entry) r ⌝ }
 {
     let mut sum: u32 = 0;
-    let mut queue = 0usize;
-    while queue < record::QUEUES {
+    for queue in 0..record::QUEUES {
         let need = need_at(words, drivers, queue);
         sum += need.due;
-        queue += 1;
     }
     sum
 }
