@@ -15,7 +15,7 @@ use Rattle.rules.specs.declared.Driver.{Driver}
 use Rattle.rules.specs.declared.Driver.the-variants.{Unbound, Host, Passthrough}
 use Rattle.rules.specs.declared.Moved.{Moved}
 use Rattle.rules.specs.declared.Moved.the-variants.{Idle, Released, BoundHost, BoundPassthrough}
-use Rattle.rules.specs.State.{State, HostMasks, Config, queues}
+use Rattle.rules.specs.State.{HostMasks, Config, queues}
 use Rattle.rules.specs.Queues.{reserved, configured, targetOf, moved, after, due, dueAt, sumBelow, remaining, rebound, moveAnswer, move, moves, sweepFrom, sweep, mostMoves, movesUsed}
 use Rattle.rules.proofs.Products.{in-product, queue-apid}
 use Rattle.rules.proofs.Sums.{sum-none, sum-more}
@@ -246,7 +246,7 @@ sweep-starts ws rs n b =
       ahead = λ j h. refl;
     }
 
-module _ (ws rs : List ℕ) (n b k left : ℕ) (qs : List ℕ) (w : Underway ws rs n b k left qs) (more : k < n) where
+module _ {ws rs : List ℕ} {n b k left : ℕ} {qs : List ℕ} (w : Underway ws rs n b k left qs) where
   -- what is due of the queue that the sweep has come to
   pub due-now : dueAt (stateIn ws qs) k ≡ dueAt (stateIn ws rs) k
   due-now = due-byte ws qs rs k (w .ahead k (le-refl k))
@@ -256,8 +256,8 @@ module _ (ws rs : List ℕ) (n b k left : ℕ) (qs : List ℕ) (w : Underway ws 
   as-long = sym (sweep-length ws (n - k) k left qs) ∙ sym (ap length (w .bytes)) ∙ sweep-length ws n 0 b rs
 
   -- a turn that has moves enough
-  pub sweep-goes-on : (m : ℕ) → m ≡ dueAt (stateIn ws qs) k → m ≤ left → Underway ws rs n b (k + 1) (left - m) (movesBytes ws m k qs)
-  sweep-goes-on m e l =
+  pub sweep-goes-on : k < n → (m : ℕ) → m ≡ dueAt (stateIn ws qs) k → m ≤ left → Underway ws rs n b (k + 1) (left - m) (movesBytes ws m k qs)
+  sweep-goes-on h m e l =
       let c : n - k - 1 ≡ n - (k + 1) = omega arith in
       record {
         below = omega arith;
@@ -269,27 +269,26 @@ module _ (ws rs : List ℕ) (n b k left : ℕ) (qs : List ℕ) (w : Underway ws 
       }
 
   -- a turn that has not: the sweep ends here
-  pub sweep-stops : left < dueAt (stateIn ws qs) k → sweepBytes ws n 0 b rs ≡ movesBytes ws left k qs
-  sweep-stops l =
+  pub sweep-stops : k < n → left < dueAt (stateIn ws qs) k → sweepBytes ws n 0 b rs ≡ movesBytes ws left k qs
+  sweep-stops h l =
       w .bytes ∙ sweep-turn ws (n - k) k left left qs (omega arith) (omega arith)
       ∙ sweep-nothing ws (n - k - 1) (k + 1) (left - left) (movesBytes ws left k qs) (omega arith)
 
-  pub made-fewer : left < dueAt (stateIn ws qs) k → b < sumBelow n (dueAt (stateIn ws rs))
-  made-fewer l =
+  pub made-fewer : k < n → left < dueAt (stateIn ws qs) k → b < sumBelow n (dueAt (stateIn ws rs))
+  made-fewer h l =
       let f = dueAt (stateIn ws rs) in
       let c : k + 1 + (n - (k + 1)) ≡ n = omega arith in
       let all : sumBelow (k + 1) f + sumFrom (n - (k + 1)) (k + 1) f ≡ sumBelow n f =
       sum-split (n - (k + 1)) (k + 1) f ∙ ap (λ (i : ℕ). sumBelow i f) c in
       omega (arith, w .made, due-now, sum-more k f, all)
 
--- every queue is passed
-pub sweep-ends : (ws rs : List ℕ) (n b k left : ℕ) (qs : List ℕ) → Underway ws rs n b k left qs → n ≤ k
-    → (qs ≡ sweepBytes ws n 0 b rs) × (b ≡ left + sumBelow n (dueAt (stateIn ws rs)))
-sweep-ends ws rs n b k left qs w h =
-    let e : k ≡ n = omega (arith, w .below) in (
-      sym (w .bytes ∙ sweep-none ws (n - k) k left qs (omega arith)),
-      w .made ∙ ap (λ (i : ℕ). left + sumBelow i (dueAt (stateIn ws rs))) e,
-    )
+  -- every queue is passed
+  pub sweep-ends : n ≤ k → (qs ≡ sweepBytes ws n 0 b rs) × (b ≡ left + sumBelow n (dueAt (stateIn ws rs)))
+  sweep-ends h =
+      let e : k ≡ n = omega (arith, w .below) in (
+        sym (w .bytes ∙ sweep-none ws (n - k) k left qs (omega arith)),
+        w .made ∙ ap (λ (i : ℕ). left + sumBelow i (dueAt (stateIn ws rs))) e,
+      )
 
 -- a whole sweep, by the bytes that it leaves, its number, and whether more moves remain than it makes
 pub swept-by : (ws rs qs : List ℕ) (budget most : ℕ) (r : Swept) → queues ≤ length rs → most ≡ min budget mostMoves

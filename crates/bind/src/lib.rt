@@ -127,15 +127,6 @@ fn due_by(driver: Driver, target: Driver) -> u32
     }
 }
 
-// The moves that the queue still needs.
-fn due_at(words: &Words, drivers: &Drivers, queue: usize) -> u32
-    requires { ⌜ queue < queues ⌝ }
-    ensures { λ r. ⌜ r ≡ dueAt (state (words .entry) (drivers .entry)) queue ⌝ }
-{
-    let need = need_at(words, drivers, queue);
-    need.due
-}
-
 // What the queue needs. Its target is computed once.
 fn need_at(words: &Words, drivers: &Drivers, queue: usize) -> Need
     requires { ⌜ queue < queues ⌝ }
@@ -154,10 +145,9 @@ pub fn remaining(words: &Words, drivers: &Drivers) -> u32
     ensures { λ r. ⌜ Remains (words .entry) (drivers .entry) r ⌝ }
 {
     let mut sum: u32 = 0;
-    let mut queue = 0usize;
-    while queue < record::QUEUES {
-        sum += due_at(words, drivers, queue);
-        queue += 1;
+    for queue in 0..record::QUEUES {
+        let need = need_at(words, drivers, queue);
+        sum += need.due;
     }
     sum
 }

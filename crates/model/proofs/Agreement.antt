@@ -1,35 +1,34 @@
 -- The service's rules and the reference model agree on every command, whatever the drivers are.
 -- Assumes nothing.
 use Prim.Native.Nat.{ℕ, zero, suc, _+_, _*_, _/_, _%_, _<_, _≤_}
-use native.Mathlib.Nat.{mod-lt, div-lt-iff-lt-mul, not-le-of-lt}
+use native.Mathlib.Nat.{mod-lt, div-lt-iff-lt-mul}
 use native.Mathlib.Omega.{arith}
-use mathlib.Core.Bool.{Bool, true, false, cond, not, _&&_, _||_, true≢false, false≢true}
+use mathlib.Core.Bool.{Bool, true, false, cond, not, _&&_, _||_, true≢false}
 use mathlib.Core.List.{List, [], _∷_}
 use mathlib.Core.Path.{_≡_, refl, sym, ap, ap₂, subst, _∙_, fun-ext}
-use mathlib.Core.Logic.{⊎-elim}
 use lib.Dec.{eqb, ltb, leb, lit<}
-use borrow.Author.Tests.{lt-ltb, le-ltb, ltb-true, ltb-false, le-leb, lt-leb, leb-true, leb-false, eqb-true, eq-eqb}
+use borrow.Author.Tests.{lt-ltb, le-ltb, ltb-true, ltb-false, leb-true, leb-false, eqb-true}
 use Rattle.errno.specs.Outcome.{Outcome, granted, refused}
 use Rattle.errno.specs.Errno.{numberOf}
 use Rattle.errno.specs.declared.Errno.{Errno}
 use Rattle.errno.specs.declared.Errno.the-variants.{Enoent, Ebusy, Eexist, Enodev, Einval, Enospc, Eaddrinuse, Eaddrnotavail}
 use Rattle.mask.specs.Bits.{Bits, bits, someBelow, both, bitsAbove, included, excluded, noBits, allBits}
-use Rattle.mask.proofs.Laws.{same-test, some-intro, some-elim, some-none, none-some, some-cong}
+use Rattle.mask.proofs.Laws.{same-test, some-intro, some-elim, none-some, some-cong}
 use Rattle.number.specs.Text.{numberText}
 use Rattle.masktext.specs.Text.{maskText}
 use Rattle.rules.specs.declared.Id.{Id}
 use Rattle.rules.specs.declared.Kind.{Kind}
 use Rattle.rules.specs.declared.Kind.the-variants.{Adapter, Domain, Control}
 use Rattle.rules.specs.declared.Configuration.{Configuration}
-use Rattle.rules.specs.State.{Limits, HostMasks, Config, Device, Devices, State, slots, queues, inProduct, noDevice, fresh}
+use Rattle.rules.specs.State.{Limits, Device, State, slots, queues, inProduct, noDevice, fresh}
 use Rattle.rules.specs.Queues as Queues
 use Rattle.rules.specs.Commands as Commands
 use Rattle.rules.specs.Commands.{errnoOf, stateAfter, slotOf, freeSlot, sameId, firstFrom, withDevice, withHost, withConfig, onDevice, reading, newDevice, withOpen, numbersOf, withNumbers, limitOf, single, paired, adding, assignAt, setHost, stored, beyondLimits, product, assigned, assignedElsewhere}
-use Rattle.rules.proofs.First.{first-le, first-holds, first-before}
+use Rattle.rules.proofs.First.{first-holds, first-before}
 use Rattle.rules.proofs.Products.{queue-apid, queue-apqi, queue-below}
 use Rattle.rules.proofs.Refusals.{same-numbers}
 use Rattle.model.specs.Steps.{Command, create, remove, openIt, closeIt, assign, unassign, setApmask, setAqmask, configure, Step, command, move, rule, after, afterAll, answers, commandsOf, queueOf}
-use Rattle.model.specs.Model.{Model, Check, Reply, most, somePair, named, known, room, lowest, slot, its, holds, anotherHolds, someHolds, reserved, has, new, highest, bitAbove, put, bare, nobody, marked, turned, turn, masked, given, judged, withText, reply, start, replies, kept}
+use Rattle.model.specs.Model.{Model, Reply, most, somePair, named, known, room, lowest, slot, its, holds, anotherHolds, someHolds, reserved, new, highest, bitAbove, put, bare, nobody, marked, turned, turn, masked, given, judged, withText, reply, start, replies, kept}
 
 -- a state without its drivers, as the model keeps it
 unfoldable pub erase : State → Model
@@ -110,7 +109,11 @@ pub record Agrees (s : State) (o : Outcome State) (r : Reply) : Type 0 where
   pub errno : r .errno ≡ errnoOf o
   pub next : r .next ≡ erase (stateAfter s o)
 
-refuses : (s : State) (e : Errno) → Agrees s (refused e) (record { errno = numberOf e; next = erase s })
+-- the model's reply where a command is refused
+abbrev no : State → Errno → Reply
+no s e = record { errno = numberOf e; next = erase s }
+
+refuses : (s : State) (e : Errno) → Agrees s (refused e) (no s e)
 unfolding errnoOf stateAfter
 refuses s e = record { errno = refl; next = refl }
 
@@ -133,13 +136,9 @@ module _ (i : Id) (s : State) where
 
   -- a command for a device
   on-device : (next : ℕ → Outcome State) (u : ℕ → Reply) → Agrees s (next p) (u p)
-      → Agrees s (onDevice i s next) (cond (not (known i (erase s))) (record { errno = numberOf Enoent; next = erase s }) (u (slot i (erase s))))
+      → Agrees s (onDevice i s next) (cond (not (known i (erase s))) (no s Enoent) (u (slot i (erase s))))
   unfolding onDevice
-  on-device next u h =
-      subst (λ (b : Bool). Agrees s (cond (ltb p slots) (next p) (refused Enoent)) (cond (not b) (record { errno = numberOf Enoent; next = erase s }) (u (slot i (erase s)))))
-      (sym (known-same i s))
-      (subst (λ (x : ℕ). Agrees s (cond (ltb p slots) (next p) (refused Enoent)) (cond (not (ltb p slots)) (record { errno = numberOf Enoent; next = erase s }) (u x)))
-      (sym (slot-same i s)) (other-way s (ltb p slots) (next p) (refused Enoent) (u p) (record { errno = numberOf Enoent; next = erase s }) h (refuses s Enoent)))
+  on-device next u h = rw (known-same i s, slot-same i s) (other-way s (ltb p slots) _ _ _ _ h (refuses s Enoent))
 
 -- a device put at a slot is put there in the model
 put-same : (j : ℕ) (u w : Device) (s : State) → u ≡ w → put j u (erase s) ≡ erase (withDevice j w s)
@@ -173,78 +172,40 @@ free-same s = lowest-first slots 0 (λ k. not (s .device k .present))
 created : (i : Id) (s : State) → Agrees s (Commands.create i s) (reply (create i) (erase s))
 unfolding Commands.create reply judged
 created i s =
-    subst (λ (b : Bool). Agrees s (Commands.create i s) (cond b (record { errno = numberOf Eexist; next = erase s }) rest)) (sym (known-same i s))
-    (same-way s (ltb (slotOf i (s .device)) slots) (refused Eexist) inner (record { errno = numberOf Eexist; next = erase s }) rest (refuses s Eexist) later)
-  where
-    free : ℕ
-    free = freeSlot (s .device)
-
-    inner : Outcome State
-    inner = cond (ltb free slots) (granted (withDevice free (newDevice i) s)) (refused Enospc)
-
-    full : Reply
-    full = record { errno = numberOf Enospc; next = erase s }
-
-    done : ℕ → Reply
-    done k = record { errno = 0; next = put k (bare true i) (erase s) }
-
-    rest : Reply
-    rest = cond (not (room (erase s))) full (done (lowest most 0 (λ k. not (erase s .device k .present))))
-
-    later : Agrees s inner rest
-    later =
-        subst (λ (b : Bool). Agrees s inner (cond (not b) full (done (lowest most 0 (λ k. not (erase s .device k .present)))))) (sym (room-same s))
-        (subst (λ (x : ℕ). Agrees s inner (cond (not (ltb free slots)) full (done x))) (sym (free-same s))
-        (other-way s (ltb free slots) (granted (withDevice free (newDevice i) s)) (refused Enospc) (done free) full
-        (grants s (withDevice free (newDevice i) s) (put free (bare true i) (erase s)) (put-same free (bare true i) (newDevice i) s (bare-new i)))
-        (refuses s Enospc)))
+    let free = freeSlot (s .device) in
+    rw (known-same i s, room-same s, free-same s)
+    (same-way s (ltb (slotOf i (s .device)) slots) _ _ _ _ (refuses s Eexist)
+    (other-way s (ltb free slots) _ _ _ _ (grants s (withDevice free (newDevice i) s) _ (put-same free (bare true i) (newDevice i) s (bare-new i))) (refuses s Enospc)))
 
 removed : (i : Id) (s : State) → Agrees s (Commands.remove i s) (reply (remove i) (erase s))
 unfolding Commands.remove reply judged its erase
-removed i s = on-device i s (λ x. cond (s .device x .isOpen) (refused Ebusy) (granted (withDevice x noDevice s))) u (at (slotOf i (s .device)))
-  where
-    done : ℕ → Reply
-    done x = record { errno = 0; next = put x (bare false nobody) (erase s) }
-
-    u : ℕ → Reply
-    u x = cond (erase s .device x .isOpen) (record { errno = numberOf Ebusy; next = erase s }) (done x)
-
-    at : (x : ℕ) → Agrees s (cond (s .device x .isOpen) (refused Ebusy) (granted (withDevice x noDevice s))) (cond (s .device x .isOpen) (record { errno = numberOf Ebusy; next = erase s }) (done x))
-    at x =
-        same-way s (s .device x .isOpen) (refused Ebusy) (granted (withDevice x noDevice s)) (record { errno = numberOf Ebusy; next = erase s }) (done x) (refuses s Ebusy)
-        (grants s (withDevice x noDevice s) (put x (bare false nobody) (erase s)) (put-same x (bare false nobody) noDevice s bare-none))
+removed i s =
+    let x = slotOf i (s .device) in
+    on-device i s _ (λ x. cond (s .device x .isOpen) (no s Ebusy) (record { errno = 0; next = put x (bare false nobody) (erase s) }))
+    (same-way s (s .device x .isOpen) _ _ _ _ (refuses s Ebusy) (grants s (withDevice x noDevice s) _ (put-same x (bare false nobody) noDevice s bare-none)))
 
 marked-open : (o : Bool) (w : Device) → marked o w ≡ withOpen o w
 unfolding marked withOpen
 marked-open o w = refl
 
-module _ (i : Id) (s : State) (o : Bool) where
-  set-open : (x : ℕ) → Agrees s (granted (withDevice x (withOpen o (s .device x)) s)) (record { errno = 0; next = put x (marked o (s .device x)) (erase s) })
-  set-open x =
-      grants s (withDevice x (withOpen o (s .device x)) s) (put x (marked o (s .device x)) (erase s))
-      (put-same x (marked o (s .device x)) (withOpen o (s .device x)) s (marked-open o (s .device x)))
+set-open : (s : State) (o : Bool) (x : ℕ)
+    → Agrees s (granted (withDevice x (withOpen o (s .device x)) s)) (record { errno = 0; next = put x (marked o (s .device x)) (erase s) })
+set-open s o x =
+    grants s (withDevice x (withOpen o (s .device x)) s) _ (put-same x (marked o (s .device x)) (withOpen o (s .device x)) s (marked-open o (s .device x)))
 
 opened : (i : Id) (s : State) → Agrees s (Commands.openDevice i s) (reply (openIt i) (erase s))
 unfolding Commands.openDevice reply judged its erase
 opened i s =
-    on-device i s (λ x. cond (s .device x .isOpen) (refused Ebusy) (granted (withDevice x (withOpen true (s .device x)) s)))
-    (λ x. cond (s .device x .isOpen) (record { errno = numberOf Ebusy; next = erase s }) (record { errno = 0; next = put x (marked true (s .device x)) (erase s) }))
-    (at (slotOf i (s .device)))
-  where
-    at : (x : ℕ) → Agrees s (cond (s .device x .isOpen) (refused Ebusy) (granted (withDevice x (withOpen true (s .device x)) s)))
-        (cond (s .device x .isOpen) (record { errno = numberOf Ebusy; next = erase s }) (record { errno = 0; next = put x (marked true (s .device x)) (erase s) }))
-    at x = same-way s (s .device x .isOpen) _ _ _ _ (refuses s Ebusy) (set-open i s true x)
+    let x = slotOf i (s .device) in
+    on-device i s _ (λ x. cond (s .device x .isOpen) (no s Ebusy) (record { errno = 0; next = put x (marked true (s .device x)) (erase s) }))
+    (same-way s (s .device x .isOpen) _ _ _ _ (refuses s Ebusy) (set-open s true x))
 
 closed : (i : Id) (s : State) → Agrees s (Commands.closeDevice i s) (reply (closeIt i) (erase s))
 unfolding Commands.closeDevice reply judged its erase
 closed i s =
-    on-device i s (λ x. cond (s .device x .isOpen) (granted (withDevice x (withOpen false (s .device x)) s)) (refused Einval))
-    (λ x. cond (not (s .device x .isOpen)) (record { errno = numberOf Einval; next = erase s }) (record { errno = 0; next = put x (marked false (s .device x)) (erase s) }))
-    (at (slotOf i (s .device)))
-  where
-    at : (x : ℕ) → Agrees s (cond (s .device x .isOpen) (granted (withDevice x (withOpen false (s .device x)) s)) (refused Einval))
-        (cond (not (s .device x .isOpen)) (record { errno = numberOf Einval; next = erase s }) (record { errno = 0; next = put x (marked false (s .device x)) (erase s) }))
-    at x = other-way s (s .device x .isOpen) _ _ _ _ (set-open i s false x) (refuses s Einval)
+    let x = slotOf i (s .device) in
+    on-device i s _ (λ x. cond (not (s .device x .isOpen)) (no s Einval) (record { errno = 0; next = put x (marked false (s .device x)) (erase s) }))
+    (other-way s (s .device x .isOpen) _ _ _ _ (set-open s false x) (refuses s Einval))
 
 -- ---- text, limits and bits
 
@@ -269,13 +230,9 @@ highest-limit Control s = refl
 
 -- a number within its limit
 within : (k : Kind) (n : ℕ) (s : State) (x : Outcome State) (u : Reply) → Agrees s x u
-    → Agrees s (cond (leb n (limitOf k (s .limits))) x (refused Enodev)) (cond (ltb (highest k (erase s)) n) (record { errno = numberOf Enodev; next = erase s }) u)
+    → Agrees s (cond (leb n (limitOf k (s .limits))) x (refused Enodev)) (cond (ltb (highest k (erase s)) n) (no s Enodev) u)
 within k n s x u h =
-    subst (λ (l : ℕ). Agrees s (cond (leb n (limitOf k (s .limits))) x (refused Enodev)) (cond (ltb l n) (record { errno = numberOf Enodev; next = erase s }) u))
-    (sym (highest-limit k s))
-    (subst (λ (b : Bool). Agrees s (cond (leb n (limitOf k (s .limits))) x (refused Enodev)) (cond b (record { errno = numberOf Enodev; next = erase s }) u))
-    (sym (above-not n (limitOf k (s .limits))))
-    (other-way s (leb n (limitOf k (s .limits))) x (refused Enodev) u (record { errno = numberOf Enodev; next = erase s }) h (refuses s Enodev)))
+    rw (highest-limit k s, above-not n (limitOf k (s .limits))) (other-way s (leb n (limitOf k (s .limits))) _ _ _ _ h (refuses s Enodev))
 
 turned-on : (n : ℕ) (b : Bits) → turned true n b ≡ included n b
 unfolding turned included

@@ -1,13 +1,12 @@
 -- Demand 3, for every list of commands and moves on a fresh record of any limits.
 -- Assumes nothing.
-use Prim.Native.Nat.{ℕ, _<_}
 use mathlib.Core.Bool.{true, false, true≢false}
 use mathlib.Core.List.{List}
 use mathlib.Core.Path.{_≡_, refl, sym, ap, subst, _∙_}
 use Rattle.rules.specs.declared.Driver.the-variants.{Host}
-use Rattle.rules.specs.State.{Limits, State, fresh, slots, queues}
-use Rattle.rules.specs.Queues.{passed, usable}
-use Rattle.model.specs.Steps.{Step, commandsOf, afterAll, answers}
+use Rattle.rules.specs.State.{Limits, State, fresh}
+use Rattle.rules.specs.Queues.{passed}
+use Rattle.model.specs.Steps.{Step, commandsOf, afterAll}
 use Rattle.model.specs.Model.{Model, start, replies, kept}
 use Rattle.model.specs.Demand3.{Kept, Follows, Demand3}
 use Rattle.model.proofs.Agreement.{erase, all-answers, all-kept, erase-fresh}

@@ -2,8 +2,7 @@
 -- Assumes nothing.
 use Prim.Native.Nat.{ℕ, _+_, _*_, _/_, _%_, _<_}
 use native.Mathlib.Nat.{div-add-mod', mod-lt}
-use native.Mathlib.Omega.{arith}
-use mathlib.Core.Bool.{Bool, true, false, cond, not, _&&_, _||_, true≢false, false≢true, and-eq-true-iff}
+use mathlib.Core.Bool.{Bool, true, false, cond, not, _&&_, true≢false, false≢true, and-eq-true-iff}
 use mathlib.Core.List.{List, [], _∷_}
 use mathlib.Core.Path.{_≡_, refl, sym, ap, subst, _∙_}
 use lib.Dec.{eqb, ltb, leb, lit<}
@@ -15,8 +14,6 @@ use Rattle.mask.specs.Bits.{Bits, someBelow, both, included, excluded, noBits}
 use Rattle.mask.proofs.Laws.{some-intro, some-none}
 use Rattle.number.specs.Text.{numberText}
 use Rattle.masktext.specs.Text.{maskText}
-use Rattle.rules.specs.declared.Driver.{Driver}
-use Rattle.rules.specs.declared.Driver.the-variants.{Unbound, Host, Passthrough}
 use Rattle.rules.specs.declared.Id.{Id}
 use Rattle.rules.specs.declared.Kind.{Kind}
 use Rattle.rules.specs.declared.Kind.the-variants.{Adapter, Domain, Control}
@@ -25,7 +22,7 @@ use Rattle.rules.specs.Queues as Queues
 use Rattle.rules.specs.Queues.{passed, guestDomains, guestAdapters, usable}
 use Rattle.rules.specs.Commands as Commands
 use Rattle.rules.specs.Commands.{stateAfter, slotOf, freeSlot, withDevice, withHost, withConfig, onDevice, reading, newDevice, withOpen, numbersOf, withNumbers, limitOf, paired, adds, adding, assignAt, setHost, stored, beyondLimits, product, assignedElsewhere}
-use Rattle.rules.proofs.Products.{in-both, product-apid, product-apqi}
+use Rattle.rules.proofs.Products.{in-both}
 use Rattle.rules.proofs.Refusals.{slot-present, adds-paired}
 use Rattle.model.specs.Steps.{Command, create, remove, openIt, closeIt, assign, unassign, setApmask, setAqmask, configure, Step, command, move, rule, after, afterAll, queueOf}
 

@@ -1,17 +1,17 @@
 -- Where no move is due, drivers and guest masks are the reference model's.
 -- Assumes nothing.
-use Prim.Native.Nat.{ℕ, _+_, _*_, _/_, _%_, _<_}
+use Prim.Native.Nat.{ℕ, _+_, _*_, _/_, _<_}
 use native.Mathlib.Omega.{arith}
-use mathlib.Core.Bool.{Bool, true, false, cond, not, _&&_}
-use mathlib.Core.Path.{_≡_, refl, sym, ap, ap₂, subst, _∙_}
+use mathlib.Core.Bool.{Bool, cond, not, _&&_}
+use mathlib.Core.Path.{_≡_, refl, ap, ap₂, subst, _∙_}
 use lib.Dec.{leb}
-use Rattle.mask.specs.Bits.{someBelow, both}
+use Rattle.mask.specs.Bits.{both}
 use Rattle.mask.proofs.Laws.{some-cong}
 use Rattle.rules.specs.declared.Driver.{Driver}
 use Rattle.rules.specs.declared.Driver.the-variants.{Unbound, Host, Passthrough}
 use Rattle.rules.specs.declared.Moved.{Moved}
 use Rattle.rules.specs.declared.Moved.the-variants.{Idle, Released, BoundHost, BoundPassthrough}
-use Rattle.rules.specs.State.{Device, State, slots, queues, inProduct}
+use Rattle.rules.specs.State.{Device, State, queues}
 use Rattle.rules.specs.Queues.{targetOf, target, moved, moveAnswer, move, remaining, reserved, configured, passed, guestDomains, guestAdapters, guestControls, Settled}
 use Rattle.rules.proofs.Products.{queue-apid, queue-below, in-product}
 use Rattle.rules.proofs.Moves.{spent, idle-spent, busy-spent, remaining-move}

@@ -1,18 +1,15 @@
 -- Demand 3: one statement on every list of commands and moves on a fresh record of any limits.
 -- Assumes nothing.
-use Prim.Native.Nat.{ℕ, suc, _<_, _+_, _*_}
-use mathlib.Core.Bool.{Bool, true, false}
-use mathlib.Core.List.{List, [], _∷_}
+use Prim.Native.Nat.{ℕ, _<_, _+_, _*_}
+use mathlib.Core.Bool.{true}
+use mathlib.Core.List.{List}
 use mathlib.Core.Path.{_≡_}
-use Rattle.mask.specs.Bits.{Bits}
-use Rattle.rules.specs.declared.Driver.{Driver}
 use Rattle.rules.specs.declared.Driver.the-variants.{Host}
-use Rattle.rules.specs.declared.Moved.{Moved}
 use Rattle.rules.specs.declared.Moved.the-variants.{Idle}
 use Rattle.rules.specs.State.{Limits, State, fresh, slots, queues}
 use Rattle.rules.specs.Queues as Queues
 use Rattle.rules.specs.Queues.{remaining, moveAnswer, usable, Settled}
-use Rattle.model.specs.Steps.{Step, commandsOf, afterAll, answers}
+use Rattle.model.specs.Steps.{Step, commandsOf, answers}
 use Rattle.model.specs.Model.{Model, start, replies, kept}
 use Rattle.model.specs.Model as Model
 

@@ -21,43 +21,18 @@ spent Released = 1
 spent BoundHost = 1
 spent BoundPassthrough = 1
 
--- a queue needs at most two moves
-pub due-le : (d t : Driver) → due d t ≤ 2
-due-le Unbound Unbound = omega arith
-due-le Unbound Host = omega arith
-due-le Unbound Passthrough = omega arith
-due-le Host Unbound = omega arith
-due-le Host Host = omega arith
-due-le Host Passthrough = omega arith
-due-le Passthrough Unbound = omega arith
-due-le Passthrough Host = omega arith
-due-le Passthrough Passthrough = omega arith
-
--- a move that is not idle leaves one move less
-pub due-after : (d t : Driver) → due (after d (moved d t)) t + spent (moved d t) ≡ due d t
+-- by driver and target: at most two moves are due, a move that is not idle leaves one less, and it is idle exactly where none is due
+by-target : (d t : Driver) → (due d t ≤ 2) × (due (after d (moved d t)) t + spent (moved d t) ≡ due d t) × (spent (moved d t) ≡ min 1 (due d t))
 unfolding after spent
-due-after Unbound Unbound = refl
-due-after Unbound Host = refl
-due-after Unbound Passthrough = refl
-due-after Host Unbound = refl
-due-after Host Host = refl
-due-after Host Passthrough = refl
-due-after Passthrough Unbound = refl
-due-after Passthrough Host = refl
-due-after Passthrough Passthrough = refl
-
--- a move is idle exactly where none is due
-pub spent-due : (d t : Driver) → spent (moved d t) ≡ min 1 (due d t)
-unfolding spent
-spent-due Unbound Unbound = refl
-spent-due Unbound Host = refl
-spent-due Unbound Passthrough = refl
-spent-due Host Unbound = refl
-spent-due Host Host = refl
-spent-due Host Passthrough = refl
-spent-due Passthrough Unbound = refl
-spent-due Passthrough Host = refl
-spent-due Passthrough Passthrough = refl
+by-target Unbound Unbound = (omega arith, refl, refl)
+by-target Unbound Host = (omega arith, refl, refl)
+by-target Unbound Passthrough = (omega arith, refl, refl)
+by-target Host Unbound = (omega arith, refl, refl)
+by-target Host Host = (omega arith, refl, refl)
+by-target Host Passthrough = (omega arith, refl, refl)
+by-target Passthrough Unbound = (omega arith, refl, refl)
+by-target Passthrough Host = (omega arith, refl, refl)
+by-target Passthrough Passthrough = (omega arith, refl, refl)
 
 -- the driver of the queue that is given another, and of the others
 pub rebound-same : (n : ℕ) (d : Driver) (ds : ℕ → Driver) → rebound n d ds n ≡ d
@@ -74,7 +49,7 @@ unfolding dueAt move moveAnswer
 due-here q s =
     ap (λ (d : Driver). due d (target s q) + spent (moved (s .driver q) (target s q)))
     (rebound-same q (after (s .driver q) (moved (s .driver q) (target s q))) (s .driver))
-    ∙ due-after (s .driver q) (target s q)
+    ∙ by-target (s .driver q) (target s q) .1
 
 pub due-other : (q j : ℕ) (s : State) → (j ≡ q → ⊥) → dueAt (move q s) j ≡ dueAt s j
 unfolding dueAt move
@@ -82,7 +57,7 @@ due-other q j s h = ap (λ (d : Driver). due d (target s j)) (rebound-other q (a
 
 pub spent-at : (q : ℕ) (s : State) → spent (moveAnswer q s) ≡ min 1 (dueAt s q)
 unfolding dueAt moveAnswer
-spent-at q s = spent-due (s .driver q) (target s q)
+spent-at q s = by-target (s .driver q) (target s q) .2
 
 -- an answer is idle exactly where it stands for no move
 pub idle-spent : (m : Moved) → m ≡ Idle → spent m ≡ 0
@@ -106,7 +81,7 @@ spent-idle BoundPassthrough e = absurd (omega arith)
 -- a queue needs at most two moves, and none exactly where its move is idle
 pub due-two : (s : State) (q : ℕ) → dueAt s q ≤ 2
 unfolding dueAt
-due-two s q = due-le (s .driver q) (target s q)
+due-two s q = by-target (s .driver q) (target s q) .0
 
 pub due-idle : (q : ℕ) (s : State) → dueAt s q ≡ 0 → moveAnswer q s ≡ Idle
 due-idle q s e = spent-idle (moveAnswer q s) (omega (arith, spent-at q s))

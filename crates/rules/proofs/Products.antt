@@ -10,7 +10,7 @@ use lib.Dec.{eqb, lit<}
 use lib.Arith.{digits-div, digits-mod}
 use borrow.Author.Tests.{ne-eqb}
 use Rattle.mask.specs.Bits.{Bits, someBelow, both}
-use Rattle.mask.proofs.Laws.{same-test, some-intro, some-elim, some-exactly, some-cong, none-some, some-none}
+use Rattle.mask.proofs.Laws.{same-test, some-intro, some-elim, some-exactly, some-cong, none-some}
 use Rattle.rules.specs.State.{Devices, inProduct, slots, queues}
 use Rattle.rules.specs.Commands.{product, assigned, assignedElsewhere}
 

@@ -1,20 +1,19 @@
 -- Demand 2's sentence: an assignment to a known device, in range, is refused exactly when a pair that it would add to the
 -- product is reserved for the host or assigned to another device.
 -- Assumes nothing.
-use Prim.Native.Nat.{ℕ, _≤_, _<_, _/_, _%_}
+use Prim.Native.Nat.{ℕ, _<_, _/_, _%_}
 use native.Mathlib.Omega.{arith}
-use mathlib.Core.Bool.{Bool, true, false, cond, not, _&&_, _||_, true≢false, false≢true, and-eq-true-iff, and-not-self}
+use mathlib.Core.Bool.{Bool, true, false, cond, not, _&&_, _||_, true≢false, and-eq-true-iff, and-not-self}
 use mathlib.Core.List.{List}
-use mathlib.Core.Path.{_≡_, refl, sym, ap, ap₂, subst, _∙_, fun-ext}
-use mathlib.Core.Logic.{_↔_, _⊎_, inl, inr}
-use lib.Dec.{eqb, ltb, leb}
+use mathlib.Core.Path.{_≡_, refl, sym, ap, _∙_, fun-ext}
+use mathlib.Core.Logic.{_↔_, inl, inr, ⊎-elim}
+use lib.Dec.{eqb}
 use borrow.Author.Tests.{lt-ltb, le-leb, eqb-true}
-use Rattle.errno.specs.Outcome.{Outcome, granted, refused}
+use Rattle.errno.specs.Outcome.{granted, refused}
 use Rattle.errno.specs.Errno.{numberOf}
-use Rattle.errno.specs.declared.Errno.the-variants.{Enoent, Enodev, Eaddrinuse, Eaddrnotavail}
+use Rattle.errno.specs.declared.Errno.the-variants.{Eaddrinuse, Eaddrnotavail}
 use Rattle.mask.specs.Bits.{Bits, someBelow, both, noBits, included}
-use Rattle.mask.proofs.Laws.{some-elim, some-intro, some-none}
-use Rattle.number.specs.Text.{numberText}
+use Rattle.mask.proofs.Laws.{some-elim, some-none}
 use Rattle.rules.specs.declared.Answer.{Answer}
 use Rattle.rules.specs.declared.Id.{Id}
 use Rattle.rules.specs.declared.Kind.{Kind}
@@ -91,42 +90,30 @@ module _ (k : Kind) (n p : ℕ) (s : State) (e : s .device p .present ≡ true) 
   added : State
   added = withDevice p (withNumbers k (included n (numbersOf k (s .device p))) (s .device p)) s
 
-  -- on what the tests of `adding` find
+  -- a new number: what a test of `adding` finds
+  module _ (h : numbersOf k (s .device p) n ≡ false) (b : Bits) where
+    found : someBelow queues (both new b) ≡ true → (q : ℕ) × (q < queues) × (adds k n (s .device p) q ≡ true) × (b q ≡ true)
+    unfolding new
+    found f =
+        let g = some-elim queues (both new b) f in
+        (g .0, g .1, adds-paired k n (s .device p) e h (g .0) ∙ both-left new b (g .0) (g .2), both-right new b (g .0) (g .2))
+
+    free : someBelow queues (both new b) ≡ false → (q : ℕ) → q < queues → adds k n (s .device p) q ≡ true → b q ≡ true → ⊥
+    unfolding new
+    free f q l a r =
+        true≢false (sym (in-both new b q (sym (adds-paired k n (s .device p) e h q) ∙ a) r) ∙ some-none queues (both new b) f q l)
+
+  -- on what both tests find
   clashes : numbersOf k (s .device p) n ≡ false → (x y : Bool) → someBelow queues (both new (reserved (s .host))) ≡ x
       → someBelow queues (both new (assignedElsewhere p (s .device))) ≡ y
       → ((errnoOf (cond x (refused Eaddrnotavail) (cond y (refused Eaddrinuse) (granted added))) ≡ 0 → ⊥) ↔ Clash k n p (s .host) (s .device))
-  unfolding errnoOf numberOf Clash new
-  clashes h true y hx hy = (
-    λ f. let g = some-elim queues (both new (reserved (s .host))) hx in (
-      g .0,
-      g .1,
-      adds-paired k n (s .device p) e h (g .0) ∙ both-left new (reserved (s .host)) (g .0) (g .2),
-      inl (both-right new (reserved (s .host)) (g .0) (g .2)),
-    ),
-    λ c z. omega arith,
-  )
-  clashes h false true hx hy = (
-    λ f. let g = some-elim queues (both new (assignedElsewhere p (s .device))) hy in (
-      g .0,
-      g .1,
-      adds-paired k n (s .device p) e h (g .0) ∙ both-left new (assignedElsewhere p (s .device)) (g .0) (g .2),
-      inr (both-right new (assignedElsewhere p (s .device)) (g .0) (g .2)),
-    ),
-    λ c z. omega arith,
-  )
+  unfolding errnoOf numberOf Clash
+  clashes h true y hx hy = (λ f. let g = found h (reserved (s .host)) hx in (g .0, g .1, g .2, inl (g .3)), λ c z. omega arith)
+  clashes h false true hx hy = (λ f. let g = found h (assignedElsewhere p (s .device)) hy in (g .0, g .1, g .2, inr (g .3)), λ c z. omega arith)
   clashes h false false hx hy = (
     λ f. absurd (f refl),
-    λ c z. none c (c .3),
+    λ c z. ⊎-elim (free h (reserved (s .host)) hx (c .0) (c .1) (c .2)) (free h (assignedElsewhere p (s .device)) hy (c .0) (c .1) (c .2)) (c .3),
   )
-    where
-      none : (c : (q : ℕ) × (q < queues) × (adds k n (s .device p) q ≡ true) × ((reserved (s .host) q ≡ true) ⊎ (assignedElsewhere p (s .device) q ≡ true)))
-          → (reserved (s .host) (c .0) ≡ true) ⊎ (assignedElsewhere p (s .device) (c .0) ≡ true) → ⊥
-      none c (inl r) =
-          true≢false (sym (in-both new (reserved (s .host)) (c .0) (sym (adds-paired k n (s .device p) e h (c .0)) ∙ c .2) r)
-          ∙ some-none queues (both new (reserved (s .host))) hx (c .0) (c .1))
-      none c (inr r) =
-          true≢false (sym (in-both new (assignedElsewhere p (s .device)) (c .0) (sym (adds-paired k n (s .device p) e h (c .0)) ∙ c .2) r)
-          ∙ some-none queues (both new (assignedElsewhere p (s .device))) hy (c .0) (c .1))
 
   at-slot : (b : Bool) → numbersOf k (s .device p) n ≡ b
       → ((errnoOf (cond b (granted s) (adding new p s added)) ≡ 0 → ⊥) ↔ Clash k n p (s .host) (s .device))

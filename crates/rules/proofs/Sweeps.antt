@@ -1,6 +1,6 @@
 -- A sweep makes the moves of its list, none of them idle, and the moves remaining are so many fewer.
 -- Assumes nothing.
-use Prim.Native.Nat.{ℕ, zero, suc, _+_, _-_, _≤_, _<_, min}
+use Prim.Native.Nat.{ℕ, zero, suc, _+_, _-_, _≤_, min}
 use native.Mathlib.Nat.{add-zero, zero-add, le-refl}
 use native.Mathlib.Omega.{arith}
 use mathlib.Core.Bool.{Bool, not}
@@ -9,9 +9,8 @@ use mathlib.Core.Path.{_≡_, refl, sym, ap, ap₂, subst, _∙_}
 use lib.Dec.{eqb}
 use lib.ListN.{length, replicate, length-append, length-replicate}
 use borrow.Author.Tests.{eqb-true, eq-eqb, not-false}
-use Rattle.rules.specs.declared.Moved.the-variants.{Idle}
 use Rattle.rules.specs.State.{State, queues}
-use Rattle.rules.specs.Queues.{dueAt, sumBelow, remaining, moveAnswer, move, moves, sweepFrom, sweep, mostMoves, movesUsed}
+use Rattle.rules.specs.Queues.{dueAt, sumBelow, remaining, move, moves, sweepFrom, sweep, mostMoves, movesUsed}
 use Rattle.rules.specs.Sweeps.{sweptFrom, swept, moveEach, EachDue, Sweep}
 use Rattle.rules.proofs.Sums.{sum-le}
 use Rattle.rules.proofs.Moves.{due-here, due-two, spent-at, idle-due, moves-other, remaining-moves, remaining-none}

@@ -1,6 +1,6 @@
 -- The commands, with their checks in the order of 01's table. A refusal changes nothing.
 -- Assumes nothing.
-use Prim.Native.Nat.{ℕ, zero, suc, _+_}
+use Prim.Native.Nat.{ℕ, zero, suc}
 use mathlib.Core.Bool.{Bool, true, false, cond, not, _&&_, _||_}
 use mathlib.Core.List.{List}
 use lib.ListN.{getD}
@@ -11,7 +11,6 @@ use Rattle.errno.specs.Errno.{numberOf}
 use Rattle.mask.specs.Bits.{Bits, bits, noBits, someBelow, both, bitsAbove, included, excluded}
 use Rattle.number.specs.Text.{numberText}
 use Rattle.masktext.specs.Text.{maskText}
-use Rattle.rules.specs.declared.Driver.{Driver}
 use Rattle.rules.specs.declared.Driver.the-variants.{Unbound}
 use Rattle.rules.specs.declared.Id.{Id}
 use Rattle.rules.specs.declared.Answer.{Answer}

@@ -12,7 +12,7 @@ use Rattle.rules.specs.declared.Matrix.{Matrix}
 use Rattle.rules.specs.declared.Matrix.the-variants.{Assigned, Guest}
 use Rattle.rules.specs.declared.Moved.{Moved}
 use Rattle.rules.specs.declared.Moved.the-variants.{Idle, Released, BoundHost, BoundPassthrough}
-use Rattle.rules.specs.State.{State, HostMasks, Config, Device, inProduct, apid, apqi, queues}
+use Rattle.rules.specs.State.{State, HostMasks, Config, Device, inProduct, apid, queues}
 
 -- reserved for the host: its APID is in apmask and its APQI is in aqmask
 unfoldable pub reserved : HostMasks → Bits

@@ -2,13 +2,12 @@
 -- A queue is named by APID x 256 + APQI, so ascending queues are by ascending APID, then APQI.
 -- Assumes nothing.
 use Prim.Native.Nat.{ℕ, _+_, _*_, _/_, _%_}
-use mathlib.Core.Bool.{Bool, true, false, cond, _&&_}
-use lib.Dec.{eqb}
+use mathlib.Core.Bool.{Bool, false, _&&_}
 use Rattle.mask.specs.Bits.{Bits, noBits, allBits}
 use Rattle.mask.specs.declared.Apid.{Apid}
 use Rattle.mask.specs.declared.Apqi.{Apqi}
 use Rattle.rules.specs.declared.Driver.{Driver}
-use Rattle.rules.specs.declared.Driver.the-variants.{Unbound, Host, Passthrough}
+use Rattle.rules.specs.declared.Driver.the-variants.{Unbound}
 use Rattle.rules.specs.declared.Id.{Id}
 
 -- the number of slots for mediated devices

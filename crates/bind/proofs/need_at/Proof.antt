@@ -9,21 +9,6 @@ use Rattle.bind.proofs.Laws.{queue-split, due-split}
 use Rattle.bind.proofs.need_at.Statement.{statement}
 use Rattle.bind.proofs.need_at.Tie as tie
 
-cast-t10 : tie.Need-cast-t10
-cast-t10 c = search needs
-
-cast-t10-2 : tie.Need-cast-t10-2
-cast-t10-2 c = search needs
-
-target-requires : tie.Need-target-requires
-target-requires c κs = search needs
-
-driver-requires : tie.Need-driver-requires
-driver-requires c κs = search needs
-
-due-by-requires : tie.Need-due-by-requires
-due-by-requires c κs = search needs
-
 returns : tie.Need-returns
 returns c =
     let a = c .before .before .before .args in
@@ -34,4 +19,11 @@ returns c =
 
 pub need-at-spec : {M : Type 1} → statement M
 need-at-spec =
-    tie.close (tie.spec cast-t10 cast-t10-2 target-requires driver-requires due-by-requires returns)
+    tie.close
+    (tie.spec
+    (λ c. search needs)
+    (λ c. search needs)
+    (λ c κs. search needs)
+    (λ c κs. search needs)
+    (λ c κs. search needs)
+    returns)

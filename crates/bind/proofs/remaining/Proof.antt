@@ -24,11 +24,13 @@ loop-holds c = (search needs, sym (sum-none (dueAt (stateIn (now (c .args .words
 
 add-sum : tie.Need-add-sum Inv-loop μ-loop
 add-sum c =
-    let s = stateIn (now (c .before .before .before .args .words)) (now (c .before .before .before .args .drivers)) in
-    omega (arith, c .due-at .ensures, due-two s (c .before .before .loop .queue), sum-le (c .before .before .loop .queue) 2 (dueAt s) (due-two s))
+    let a = c .before .before .before .before .args in
+    let k = c .before .before .before .loop .queue in
+    let s = stateIn (now (a .words)) (now (a .drivers)) in
+    omega (arith, c .before .need-at .ensures .0, due-two s k, sum-le k 2 (dueAt s) (due-two s))
 
 loop-again : tie.Need-loop-again Inv-loop μ-loop
-loop-again c = (search needs, rw (c .before .before .loop .inv .1, c .due-at .ensures, sum-more))
+loop-again c = (search needs, rw (c .before .before .before .loop .inv .1, c .before .need-at .ensures .0, sum-more))
 
 returns : tie.Need-returns Inv-loop μ-loop
 unfolding remaining

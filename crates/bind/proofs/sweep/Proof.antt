@@ -2,7 +2,7 @@
 -- Assumes nothing.
 use Prim.Native.Nat.{ℕ, _+_, _-_, _<_, min}
 use native.Mathlib.Omega.{arith}
-use mathlib.Core.Path.{_≡_, sym, ap, subst, _∙_}
+use mathlib.Core.Path.{_≡_, sym, subst, _∙_}
 use mathlib.Core.List.{List}
 use lib.ListN.{length}
 use mathlib.Core.Logic.{⊎-elim}
@@ -44,9 +44,9 @@ returns c =
     let l = c .before .before .before .before .before .before .loop in
     let short : l .left < dueAt (stateIn ws (l .drivers)) (l .queue) = omega (arith, c .before .before .before .need-at .ensures .0) in
     let fewer : most < remaining (stateIn ws rs) =
-    made-fewer ws rs queues most (l .queue) (l .left) (l .drivers) (l .inv .1) (omega arith) short in
+    made-fewer (l .inv .1) (omega arith) short in
     swept-by ws rs _ (a .budget) most _ (omega (arith, c .before .before .before .before .before .before .before .before .hold-drivers .ensures .long)) (l .inv .0)
-    (c .settle .ensures ∙ sym (sweep-stops ws rs queues most (l .queue) (l .left) (l .drivers) (l .inv .1) (omega arith) short))
+    (c .settle .ensures ∙ sym (sweep-stops (l .inv .1) (omega arith) short))
     (omega arith) (sym (lt-ltb most (remaining (stateIn ws rs)) fewer))
 
 loop-again : tie.Need-loop-again Inv-loop μ-loop
@@ -59,10 +59,10 @@ loop-again c =
     let m = need .result .due in
     let t = need .result .target in
     let long : l .queue < length (l .drivers) =
-    omega (arith, as-long ws rs queues most (l .queue) (l .left) (l .drivers) (l .inv .1) (omega arith), c .before .before .before .before .before .before .before .before .before .hold-drivers .ensures .long) in (
+    omega (arith, as-long (l .inv .1), c .before .before .before .before .before .before .before .before .before .hold-drivers .ensures .long) in (
       l .inv .0,
       subst (λ (qs : List ℕ). Underway ws rs queues most (l .queue + 1) (l .left - m) qs) (sym (c .before .finish .ensures ∙ finished ws (l .drivers) (l .queue) m t long (need .ensures .0) (need .ensures .1)))
-          (sweep-goes-on ws rs queues most (l .queue) (l .left) (l .drivers) (l .inv .1) (omega arith) m (need .ensures .0) (omega arith)),
+          (sweep-goes-on (l .inv .1) (omega arith) m (need .ensures .0) (omega arith)),
     )
 
 sub-made : tie.Need-sub-made Inv-loop μ-loop
@@ -76,7 +76,7 @@ returns-2 c =
     let rs = now (a .drivers) in
     let most = c .before .before .before .before .if1 .most in
     let l = c .before .before .before .loop in
-    let done = sweep-ends ws rs queues most (l .queue) (l .left) (l .drivers) (l .inv .1) (omega arith) in
+    let done = sweep-ends (l .inv .1) (omega arith) in
     let enough : most ≡ l .left + remaining (stateIn ws rs) = done .1 in
     swept-by ws rs _ (a .budget) most _ (omega (arith, c .before .before .before .before .before .hold-drivers .ensures .long)) (l .inv .0)
     (done .0) (omega arith) (sym (le-ltb most (remaining (stateIn ws rs)) (omega arith)))

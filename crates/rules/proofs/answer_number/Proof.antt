@@ -6,15 +6,6 @@ use borrow.Author.Needs.{needs}
 use Rattle.rules.proofs.answer_number.Statement.{statement}
 use Rattle.rules.proofs.answer_number.Tie as tie
 
-enum-told : tie.Need-enum-told
-enum-told c = search needs
-
-enum-known-answer : tie.Need-enum-known-answer
-enum-known-answer c = search needs
-
-number-requires : tie.Need-number-requires
-number-requires c κs = search needs
-
 returns : tie.Need-returns
 unfolding answered
 returns c = search needs
@@ -24,4 +15,4 @@ unfolding answered
 returns-2 c = c .number .ensures ∙ ap answered (sym (c .before .before .answer .given .1))
 
 pub answer-number-spec : {M : Type 1} → statement M
-answer-number-spec = tie.close (tie.spec enum-told enum-known-answer number-requires returns returns-2)
+answer-number-spec = tie.close (tie.spec (λ c. search needs) (λ c. search needs) (λ c κs. search needs) returns returns-2)
