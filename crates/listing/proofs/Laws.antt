@@ -23,7 +23,7 @@ use Rattle.rules.specs.Commands.{answered, slotOf}
 use Rattle.rules.proofs.Products.{queue-apid, queue-apqi, in-product}
 use Rattle.record.specs.Layout.{stateIn, deviceIn}
 use Rattle.guest.specs.Masks.{HasMasks}
-use Rattle.listing.specs.Lines.{lineSize, hexDigit, lineOf, linesOf, setFrom, queuesAt, fitting, nextPlace}
+use Rattle.listing.specs.Lines.{lineSize, hexDigit, lineOf, withLine, linesOf, setFrom, queuesAt, fitting, nextPlace}
 use Rattle.listing.specs.Listed.{Written, Listing, matrix, listErrno}
 use Rattle.listing.specs.declared.Listed.{Listed}
 
@@ -95,7 +95,7 @@ queue-of k h = omega arith
 pub line-stores : (b : List ℕ) (at a d s t x y : ℕ) → at + lineSize ≤ length b → d < 256
     → s ≡ hexDigit (a / 16) → t ≡ hexDigit (a % 16) → x ≡ hexDigit (d / 16) → y ≡ hexDigit (d % 16)
     → set (set (set (set (set (set (set (set b at s) (at + 1) t) (at + 2) 46) (at + 3) 48) (at + 4) 48) (at + 5) x) (at + 6) y) (at + 7) 10
-    ≡ take at b ++ lineOf (a * 256 + d) ++ drop (at + lineSize) b
+    ≡ withLine b at (a * 256 + d)
 unfolding lineOf
 line-stores b at a d s t x y h l p q r u =
     let line : s ∷ t ∷ 46 ∷ 48 ∷ 48 ∷ x ∷ y ∷ 10 ∷ [] ≡ lineOf (a * 256 + d) = cc (queue-apid a d l, queue-apqi a d l) in
@@ -162,7 +162,7 @@ module _ {m : Bits} {place : ℕ} {b₀ b : List ℕ} {k at last : ℕ} (s : Sof
 
   -- one line more
   pub sofar-line : {q : ℕ} (b′ : List ℕ) → q ≡ k → k < queues → m q ≡ true → at + lineSize ≤ length b
-      → b′ ≡ take at b ++ lineOf q ++ drop (at + lineSize) b → Sofar m place b₀ b′ (k + 1) (at + lineSize) k
+      → b′ ≡ withLine b at q → Sofar m place b₀ b′ (k + 1) (at + lineSize) k
   sofar-line b′ i h e f p =
       let before : take at b ≡ linesOf (s .done) = ap (take at) (s .text) ∙ take-at (linesOf (s .done)) (drop at b₀) at lines-size in
       let after : drop (at + 8) b ≡ drop (at + 8) b₀ =

@@ -3,10 +3,14 @@
 use Prim.Native.Nat.{ℕ, zero, suc, _+_, _-_, _*_, _/_, _%_}
 use mathlib.Core.Bool.{cond}
 use mathlib.Core.List.{List, [], _∷_, _++_}
-use lib.ListN.{length, getD, take}
+use lib.ListN.{length, getD, take, drop}
 use lib.Dec.{ltb, leb}
 use Rattle.mask.specs.Bits.{Bits}
 use Rattle.rules.specs.State.{queues, apid, apqi}
+
+-- the bytes of a line
+abbrev pub lineSize : ℕ
+lineSize = 8
 
 -- a lower-case hex digit
 unfoldable pub hexDigit : ℕ → ℕ
@@ -17,9 +21,9 @@ unfoldable pub lineOf : ℕ → List ℕ
 lineOf q =
     hexDigit (apid q / 16) ∷ hexDigit (apid q % 16) ∷ 46 ∷ 48 ∷ 48 ∷ hexDigit (apqi q / 16) ∷ hexDigit (apqi q % 16) ∷ 10 ∷ []
 
--- the bytes of a line
-abbrev pub lineSize : ℕ
-lineSize = 8
+-- the bytes b with a queue's line from index k on
+abbrev pub withLine : List ℕ → ℕ → ℕ → List ℕ
+withLine b k q = take k b ++ lineOf q ++ drop (k + lineSize) b
 
 -- the numbers that a set has among the n from k on, in ascending order
 unfoldable pub setFrom : ℕ → ℕ → Bits → List ℕ
@@ -41,4 +45,5 @@ fitting n place m = take (n / lineSize) (queuesAt place m)
 
 -- the next place: one past the last line if more remain, else one past the last queue
 unfoldable pub nextPlace : ℕ → ℕ → Bits → ℕ
-nextPlace n place m = cond (leb (length (queuesAt place m)) (n / lineSize)) queues (getD (queuesAt place m) (n / lineSize - 1) 0 + 1)
+nextPlace n place m =
+    cond (leb (length (queuesAt place m)) (n / lineSize)) queues (getD (queuesAt place m) (n / lineSize - 1) 0 + 1)

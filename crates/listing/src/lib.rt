@@ -15,15 +15,14 @@ use rules::Masks;
 use rules::Matrix;
 ghost use Prim.Native.Nat.{_+_, _≤_, _<_};
 ghost use mathlib.Core.Path.{_≡_};
-ghost use mathlib.Core.List.{_++_};
-ghost use lib.ListN.{length, take, drop};
+ghost use lib.ListN.{length};
 ghost use Rattle.errno.specs.Errno.{numberOf};
 ghost use Rattle.mask.specs.Bits.{bits};
 ghost use Rattle.rules.specs.State.{apqn, inProduct};
 ghost use Rattle.rules.specs.Commands.{answered};
 ghost use Rattle.record.specs.Lent.{state};
 ghost use Rattle.product.specs.Meet.{queuesOf};
-ghost use Rattle.listing.specs.Lines.{lineSize, hexDigit, lineOf, queuesAt};
+ghost use Rattle.listing.specs.Lines.{lineSize, hexDigit, withLine, queuesAt};
 ghost use Rattle.listing.specs.Listed.{Written, Listing};
 
 // The bytes of a line.
@@ -118,7 +117,7 @@ fn write(product: Product, place: usize, buf: &mut [u8]) -> Listed
 // Writes the line of a queue at an index of the buffer.
 fn put_line(buf: &mut [u8], at: usize, adapter: Apid, domain: Apqi)
     requires { ⌜ at + lineSize ≤ length (now buf) ⌝ }
-    ensures { λ r. ⌜ now (buf .exit) ≡ take at (now (buf .entry)) ++ lineOf (apqn adapter domain) ++ drop (at + lineSize) (now (buf .entry)) ⌝ }
+    ensures { λ r. ⌜ now (buf .exit) ≡ withLine (now (buf .entry)) at (apqn adapter domain) ⌝ }
 {
     let a = adapter.0;
     let d = domain.0;
