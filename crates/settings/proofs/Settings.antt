@@ -31,7 +31,8 @@ use Rattle.rules.proofs.Products.{product-apid, product-apqi}
 use Rattle.record.specs.Layout.{wordsOf}
 use Rattle.record.proofs.Laws.{words-bits}
 use Rattle.model.specs.Steps.{Step, command, move, queueOf, answers, afterAll}
-use Rattle.settings.specs.Table.{Row, maskWith, setFrom, setBits, shown, maskOrNone, readMask, idOf, wordsWith, limited, unreserved, twoDevices, oneUnbound, new, adapter, domain, apmask, aqmask, config, Every, Says, table}
+use Rattle.listing.specs.Lines.{setFrom}
+use Rattle.settings.specs.Table.{Row, maskWith, setBits, shown, maskOrNone, readMask, idOf, wordsWith, limited, unreserved, twoDevices, oneUnbound, new, adapter, domain, apmask, aqmask, config, Every, Says, table}
 use Rattle.settings.proofs.Quick.{pairedAdapters, pairedDomains, meetsHost, meetsElsewhere, quickAssignAt, quickSetHost, quickRule, quickAnswers, quickAfter, answers-quick, after-quick}
 
 -- ---- what is computed: texts and masks
