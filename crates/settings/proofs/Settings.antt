@@ -1,11 +1,11 @@
 -- Every row of the table of settings holds.
 -- Assumes nothing.
-use Prim.Native.Nat.{ℕ, _+_, _*_, _/_, _%_, _<_, _≤_}
+use Prim.Native.Nat.{ℕ, _+_, _*_, _/_, _%_, _<_}
 use native.Mathlib.Nat.{div-add-mod', zero-min}
 use native.Mathlib.Omega.{arith}
-use mathlib.Core.Bool.{Bool, true, false, cond, not, _&&_, _||_, true≢false, false≢true, and-eq-true-iff}
+use mathlib.Core.Bool.{Bool, true, false, cond, not, _&&_, _||_}
 use mathlib.Core.List.{List, [], _∷_, _++_}
-use mathlib.Core.Path.{_≡_, refl, sym, ap, ap₂, subst, _∙_}
+use mathlib.Core.Path.{_≡_, refl, sym, ap, subst, _∙_}
 use lib.Dec.{eqb, leb}
 use lib.ListN.{replicate}
 use borrow.Author.Tests.{eqb-true, ne-eqb}
@@ -18,11 +18,10 @@ use Rattle.number.specs.Text.{digitOf, body, startsHex, digitsAfter, digits, an
 use Rattle.masktext.specs.Text.{allHex, hexMask, signed, item, andThen, items, before, parts, maskText}
 use Rattle.rules.specs.declared.Driver.{Driver}
 use Rattle.rules.specs.declared.Driver.the-variants.{Unbound, Host, Passthrough}
-use Rattle.rules.specs.declared.Moved.{Moved}
-use Rattle.rules.specs.declared.Moved.the-variants.{Idle, Released, BoundHost, BoundPassthrough}
+use Rattle.rules.specs.declared.Moved.the-variants.{Idle, Released, BoundPassthrough}
 use Rattle.rules.specs.declared.Configuration.{Configuration}
 use Rattle.rules.specs.State.{Config, State, inProduct, noDevice, fresh, queues}
-use Rattle.rules.specs.Queues.{reserved, configured, targetOf, moved, after, rebound, due, dueAt, sumBelow, remaining, moveAnswer, moves, movesUsed, passed, guestDomains, guestAdapters}
+use Rattle.rules.specs.Queues.{reserved, configured, targetOf, after, rebound, due, dueAt, remaining, moveAnswer, moves, movesUsed, passed, guestDomains, guestAdapters}
 use Rattle.rules.specs.Queues as Queues
 use Rattle.rules.specs.Commands.{errnoOf, stateAfter, sameId, firstFrom, slotOf, freeSlot, withDevice, withHost, onDevice, reading, newDevice, create, numbersOf, withNumbers, limitOf, single, stored, beyondLimits, withConfig, configure}
 use Rattle.rules.proofs.Sums.{sum-change, zero-sum}
@@ -30,9 +29,9 @@ use Rattle.rules.proofs.Moves.{remaining-moves, rebound-other}
 use Rattle.rules.proofs.Products.{product-apid, product-apqi}
 use Rattle.record.specs.Layout.{wordsOf}
 use Rattle.record.proofs.Laws.{words-bits}
-use Rattle.model.specs.Steps.{Step, command, move, queueOf, answers, afterAll}
+use Rattle.model.specs.Steps.{Step, move, queueOf, answers, afterAll}
 use Rattle.listing.specs.Lines.{setFrom}
-use Rattle.settings.specs.Table.{Row, maskWith, setBits, shown, maskOrNone, readMask, idOf, wordsWith, limited, unreserved, twoDevices, oneUnbound, new, adapter, domain, apmask, aqmask, config, Every, Says, table}
+use Rattle.settings.specs.Table.{maskWith, setBits, shown, maskOrNone, readMask, idOf, wordsWith, limited, unreserved, twoDevices, oneUnbound, new, adapter, domain, apmask, aqmask, config, Every, table}
 use Rattle.settings.proofs.Quick.{pairedAdapters, pairedDomains, meetsHost, meetsElsewhere, quickAssignAt, quickSetHost, quickRule, quickAnswers, quickAfter, answers-quick, after-quick}
 
 -- ---- what is computed: texts and masks

@@ -13,12 +13,10 @@ use Rattle.mask.specs.Bits.{Bits, noBits, included, numbers}
 use Rattle.mask.specs.declared.Mask.{Mask}
 use Rattle.masktext.specs.Text.{maskText}
 use Rattle.rules.specs.declared.Id.{Id}
-use Rattle.rules.specs.declared.Kind.{Kind}
-use Rattle.rules.specs.declared.Kind.the-variants.{Adapter, Domain, Control}
-use Rattle.rules.specs.declared.Configuration.{Configuration}
+use Rattle.rules.specs.declared.Kind.the-variants.{Adapter, Domain}
 use Rattle.rules.specs.declared.Moved.{Moved}
-use Rattle.rules.specs.declared.Moved.the-variants.{Idle, Released, BoundHost, BoundPassthrough}
-use Rattle.rules.specs.State.{Limits, State, fresh}
+use Rattle.rules.specs.declared.Moved.the-variants.{Idle, Released, BoundPassthrough}
+use Rattle.rules.specs.State.{State, fresh}
 use Rattle.rules.specs.Queues.{reserved, guestAdapters, guestDomains, remaining, moveAnswer, moves, movesUsed}
 use Rattle.listing.specs.Lines.{setFrom}
 use Rattle.model.specs.Steps.{Step, command, move, create, assign, setApmask, setAqmask, configure, afterAll, answers}
