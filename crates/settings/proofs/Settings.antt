@@ -196,54 +196,35 @@ by-list steps n e = answers-quick steps (limited n) ∙ e
 by-guest : (f : State → List ℕ) (steps : List Step) {to : List ℕ} → f (quickAfter steps (limited 255)) ≡ to → f (afterAll steps (limited 255)) ≡ to
 by-guest f steps e = ap f (after-quick steps (limited 255)) ∙ e
 
+abbrev adaptersOf : State → List ℕ
+adaptersOf s = setBits (guestAdapters s (s .device 0))
+
+abbrev domainsOf : State → List ℕ
+domainsOf s = setBits (guestDomains s (s .device 0))
+
+infixr 5 _▸_
+-- a row and the rows after it
+_▸_ : {A B : Type 0} → A → B → A × B
+a ▸ b = (a, b)
+
 pub settings : Every table
 unfolding table maskWith
-settings = (
-  texts .0,
-  (
-    texts .1,
-    (
-      texts .2,
-      (
-        texts .3,
-        (
-          texts .4,
-          (
-            texts .5,
-            (
-              texts .6,
-              (
-                texts .7,
-                (
-                  by-list twoDevices 255 (lists .0),
-                  (
-                    by-list (twoDevices ++ (domain 2 "6" ∷ [])) 255 (lists .1),
-                    (
-                      by-list (new 1 ∷ adapter 1 "5" ∷ domain 1 "4" ∷ []) 255 (lists .2),
-                      (
-                        by-list (new 1 ∷ adapter 1 "63" ∷ adapter 1 "64" ∷ []) 63 (lists .3),
-                        (
-                          (by-guest (λ t. setBits (guestAdapters t (t .device 0))) oneUnbound (guest-lists .0), by-guest (λ t. setBits (guestDomains t (t .device 0))) oneUnbound (guest-lists .1)),
-                          (
-                            (by-guest (λ t. setBits (guestAdapters t (t .device 0))) fewer (guest-lists .2), by-guest (λ t. setBits (guestDomains t (t .device 0))) fewer (guest-lists .3)),
-                            (
-                              by-list regained 255 (lists .4),
-                              (
-                                by-list clash 255 (lists .5),
-                                (settled (afterAll exchange (limited 255)) (after-quick exchange (limited 255)), tt),
-                              ),
-                            ),
-                          ),
-                        ),
-                      ),
-                    ),
-                  ),
-                ),
-              ),
-            ),
-          ),
-        ),
-      ),
-    ),
-  ),
-)
+settings =
+    texts .0
+    ▸ texts .1
+    ▸ texts .2
+    ▸ texts .3
+    ▸ texts .4
+    ▸ texts .5
+    ▸ texts .6
+    ▸ texts .7
+    ▸ by-list twoDevices 255 (lists .0)
+    ▸ by-list (twoDevices ++ (domain 2 "6" ∷ [])) 255 (lists .1)
+    ▸ by-list (new 1 ∷ adapter 1 "5" ∷ domain 1 "4" ∷ []) 255 (lists .2)
+    ▸ by-list (new 1 ∷ adapter 1 "63" ∷ adapter 1 "64" ∷ []) 63 (lists .3)
+    ▸ (by-guest adaptersOf oneUnbound (guest-lists .0), by-guest domainsOf oneUnbound (guest-lists .1))
+    ▸ (by-guest adaptersOf fewer (guest-lists .2), by-guest domainsOf fewer (guest-lists .3))
+    ▸ by-list regained 255 (lists .4)
+    ▸ by-list clash 255 (lists .5)
+    ▸ settled (afterAll exchange (limited 255)) (after-quick exchange (limited 255))
+    ▸ tt
