@@ -9,21 +9,23 @@ use mathlib.Core.Bool.{Bool, true, false, cond, _&&_}
 use mathlib.Core.List.{List, [], _∷_, _++_, append-nil, append-assoc}
 use lib.ListN.{length, getD, set, take, drop, length-append, length-drop, List·getD-append}
 use lib.Seq.{sets-eq, take-all, take-at, drop-at, drop-drop, getD-append-seam, append-snoc}
-use lib.Dec.{eqb, eqb·suc-zero}
-use Rattle.mask.specs.Bits.{Bits, countBelow}
-use Rattle.mask.proofs.Laws.{count-cong, count-add}
-use Rattle.rules.specs.State.{queues, slots, inProduct}
-use Rattle.rules.proofs.Products.{in-product}
-use Rattle.listing.specs.Lines.{hexDigit, lineOf, linesOf, queuesFrom, queuesAt, fitting, nextPlace}
-use Rattle.listing.specs.Written.{Written}
-use Rattle.listing.specs.Listed.{Listing, matrix, listErrno}
-use Rattle.listing.specs.declared.Listed.{Listed}
-use Rattle.rules.specs.declared.Id.{Id}
-use Rattle.rules.specs.declared.Matrix.{Matrix}
-use Rattle.rules.specs.Commands.{answered, slotOf}
-use Rattle.rules.specs.Queues.{matrixAdapters, matrixDomains}
-use Rattle.record.specs.Layout.{stateIn, deviceIn}
 use borrow.Author.Tests.{lt-ltb, le-ltb, le-leb, lt-leb}
+use Rattle.errno.specs.Errno.{numberOf}
+use Rattle.errno.specs.declared.Errno.{Errno}
+use Rattle.errno.specs.declared.Errno.the-variants.{Enoent, Ebusy, Eexist, Enodev, Einval, Enospc, Eaddrinuse, Eaddrnotavail}
+use Rattle.mask.specs.Bits.{Bits, bits, countBelow}
+use Rattle.mask.proofs.Laws.{count-cong, count-add}
+use Rattle.rules.specs.declared.Id.{Id}
+use Rattle.rules.specs.declared.Masks.{Masks}
+use Rattle.rules.specs.declared.Matrix.{Matrix}
+use Rattle.rules.specs.State.{State, queues, slots, inProduct}
+use Rattle.rules.specs.Commands.{answered, slotOf}
+use Rattle.rules.proofs.Products.{queue-apid, queue-apqi, in-product}
+use Rattle.record.specs.Layout.{stateIn, deviceIn}
+use Rattle.guest.specs.Masks.{HasMasks}
+use Rattle.listing.specs.Lines.{lineSize, hexDigit, lineOf, withLine, linesOf, setFrom, queuesAt, fitting, nextPlace}
+use Rattle.listing.specs.Listed.{Written, Listing, matrix, listErrno}
+use Rattle.listing.specs.declared.Listed.{Listed}
 
 -- ---- how many queues
 
@@ -36,15 +38,15 @@ one-more : (b : Bool) (k : ℕ) (qs : List ℕ) → length (cond b (k ∷ qs) qs
 one-more true k qs = sym (one-add (length qs))
 one-more false k qs = sym (zero-add (length qs))
 
-length-queues : (n k : ℕ) (m : Bits) → length (queuesFrom n k m) ≡ countBelow n (λ i. m (k + i))
-unfolding queuesFrom countBelow
+length-queues : (n k : ℕ) (m : Bits) → length (setFrom n k m) ≡ countBelow n (λ i. m (k + i))
+unfolding setFrom countBelow
 length-queues zero k m = refl
 length-queues (suc n) k m =
     let f : Bits = λ i. m (k + i) in
     let first : countBelow 1 f ≡ cond (m k) 1 0 = zero-add (cond (m (k + 0)) 1 0) ∙ ap (λ (x : ℕ). cond (m x) 1 0) (add-zero k) in
-    let rest : countBelow n (λ i. f (1 + i)) ≡ length (queuesFrom n (suc k) m) =
+    let rest : countBelow n (λ i. f (1 + i)) ≡ length (setFrom n (suc k) m) =
     count-cong n (λ i. f (1 + i)) (λ i. m (suc k + i)) (λ i l. ap m (omega arith)) ∙ sym (length-queues n (suc k) m) in
-    one-more (m k) k (queuesFrom n (suc k) m) ∙ sym (ap₂ _+_ first rest) ∙ sym (count-add 1 n f) ∙ ap (λ (x : ℕ). countBelow x f) (one-add n)
+    one-more (m k) k (setFrom n (suc k) m) ∙ sym (ap₂ _+_ first rest) ∙ sym (count-add 1 n f) ∙ ap (λ (x : ℕ). countBelow x f) (one-add n)
 
 -- n rows of w numbers each, where row x has c of them if a has x, and none else
 rows : (w c : ℕ) (a m : Bits) → ((x : ℕ) → countBelow w (λ i. m (x * w + i)) ≡ cond (a x) 1 0 * c) → (n : ℕ) → countBelow (n * w) m ≡ countBelow n a * c
@@ -85,49 +87,45 @@ unfolding linesOf
 lines-snoc [] q = append-nil (lineOf q)
 lines-snoc (p ∷ qs) q = ap (λ (l : List ℕ). lineOf p ++ l) (lines-snoc qs q) ∙ sym (append-assoc (lineOf p) (linesOf qs) (lineOf q))
 
--- what a queue below the last has as its APID
-apid-small : (k : ℕ) → k < queues → k / 256 % 256 ≡ k / 256
-apid-small k h = omega arith
-
-pub product-at : (a d : Bits) (k : ℕ) → k < queues → inProduct a d k ≡ (a (k / 256 % 256) && d (k % 256))
-unfolding inProduct
-product-at a d k h = ap (λ (n : ℕ). a n && d (k % 256)) (sym (apid-small k h))
+-- the queue of its own two numbers
+pub queue-of : (k : ℕ) → k < queues → k / 256 % 256 * 256 + k % 256 ≡ k
+queue-of k h = omega arith
 
 -- a line, byte by byte
-pub line-stores : (b : List ℕ) (at k s t x y : ℕ) → at + 8 ≤ length b → k < queues
-    → s ≡ hexDigit (k / 256 % 256 / 16) → t ≡ hexDigit (k / 256 % 256 % 16) → x ≡ hexDigit (k % 256 / 16) → y ≡ hexDigit (k % 256 % 16)
+pub line-stores : (b : List ℕ) (at a d s t x y : ℕ) → at + lineSize ≤ length b → d < 256
+    → s ≡ hexDigit (a / 16) → t ≡ hexDigit (a % 16) → x ≡ hexDigit (d / 16) → y ≡ hexDigit (d % 16)
     → set (set (set (set (set (set (set (set b at s) (at + 1) t) (at + 2) 46) (at + 3) 48) (at + 4) 48) (at + 5) x) (at + 6) y) (at + 7) 10
-    ≡ take at b ++ lineOf k ++ drop (at + 8) b
+    ≡ withLine b at (a * 256 + d)
 unfolding lineOf
-line-stores b at k s t x y h below p q r u =
-    let line : s ∷ t ∷ 46 ∷ 48 ∷ 48 ∷ x ∷ y ∷ 10 ∷ [] ≡ lineOf k = cc (apid-small k below) in
+line-stores b at a d s t x y h l p q r u =
+    let line : s ∷ t ∷ 46 ∷ 48 ∷ 48 ∷ x ∷ y ∷ 10 ∷ [] ≡ lineOf (a * 256 + d) = cc (queue-apid a d l, queue-apqi a d l) in
     rw (add-one, add-two, add-three, add-four, add-five, add-six, add-seven)
-    (sets-eq (s ∷ t ∷ 46 ∷ 48 ∷ 48 ∷ x ∷ y ∷ 10 ∷ []) b at h ∙ ap (λ (l : List ℕ). take at b ++ l ++ drop (at + 8) b) line)
+    (sets-eq (s ∷ t ∷ 46 ∷ 48 ∷ 48 ∷ x ∷ y ∷ 10 ∷ []) b at h ∙ ap (λ (v : List ℕ). take at b ++ v ++ drop (at + lineSize) b) line)
 
 -- ---- the queues from k on
 
-from-suc : (n k : ℕ) (m : Bits) → queuesFrom (suc n) k m ≡ cond (m k) (k ∷ queuesFrom n (k + 1) m) (queuesFrom n (k + 1) m)
-unfolding queuesFrom
-from-suc n k m = ap (λ (j : ℕ). cond (m k) (k ∷ queuesFrom n j m) (queuesFrom n j m)) (sym (add-one k))
+from-suc : (n k : ℕ) (m : Bits) → setFrom (suc n) k m ≡ cond (m k) (k ∷ setFrom n (k + 1) m) (setFrom n (k + 1) m)
+unfolding setFrom
+from-suc n k m = ap (λ (j : ℕ). cond (m k) (k ∷ setFrom n j m) (setFrom n j m)) (sym (add-one k))
 
 from-here : (k : ℕ) (m : Bits) → k < queues
-    → queuesFrom (queues - k) k m ≡ cond (m k) (k ∷ queuesFrom (queues - (k + 1)) (k + 1) m) (queuesFrom (queues - (k + 1)) (k + 1) m)
+    → setFrom (queues - k) k m ≡ cond (m k) (k ∷ setFrom (queues - (k + 1)) (k + 1) m) (setFrom (queues - (k + 1)) (k + 1) m)
 from-here k m h =
     let e : queues - k ≡ suc (queues - (k + 1)) = omega arith in
-    ap (λ (n : ℕ). queuesFrom n k m) e ∙ from-suc (queues - (k + 1)) k m
+    ap (λ (n : ℕ). setFrom n k m) e ∙ from-suc (queues - (k + 1)) k m
 
-from-end : (k : ℕ) (m : Bits) → queues ≤ k → queuesFrom (queues - k) k m ≡ []
-unfolding queuesFrom
+from-end : (k : ℕ) (m : Bits) → queues ≤ k → setFrom (queues - k) k m ≡ []
+unfolding setFrom
 from-end k m h =
     let e : queues - k ≡ 0 = omega arith in
-    ap (λ (n : ℕ). queuesFrom n k m) e
+    ap (λ (n : ℕ). setFrom n k m) e
 
 -- ---- a buffer while the lines are written
 
 -- the queues before k are done, and their lines stand in the first `at` bytes; the last of them is `last`
 pub record Sofar (m : Bits) (place : ℕ) (b₀ b : List ℕ) (k at last : ℕ) : Type 0 where
   pub done : List ℕ
-  pub all : queuesAt place m ≡ done ++ queuesFrom (queues - k) k m
+  pub all : queuesAt place m ≡ done ++ setFrom (queues - k) k m
   pub size : at ≡ 8 * length done
   pub fits : at ≤ length b₀
   pub long : length b ≡ length b₀
@@ -145,11 +143,12 @@ pub sofar-as : {m : Bits} {place : ℕ} {b₀ b b′ : List ℕ} {k at at′ las
 sofar-as p q r s = rw (p, q, r) s
 
 module _ {m : Bits} {place : ℕ} {b₀ b : List ℕ} {k at last : ℕ} (s : Sofar m place b₀ b k at last) where
-  pub sofar-skip : k < queues → m k ≡ false → Sofar m place b₀ b (k + 1) at last
-  sofar-skip h e =
+  -- one queue more, q, which is k, and no line
+  pub sofar-skip : {q : ℕ} → q ≡ k → k < queues → m q ≡ false → Sofar m place b₀ b (k + 1) at last
+  sofar-skip i h e =
       record {
         done = s .done;
-        all = s .all ∙ ap (λ (l : List ℕ). s .done ++ l) (from-here k m h ∙ rw e);
+        all = s .all ∙ ap (λ (l : List ℕ). s .done ++ l) (from-here k m h ∙ rw (rw i at e));
         size = s .size;
         fits = s .fits;
         long = s .long;
@@ -162,18 +161,18 @@ module _ {m : Bits} {place : ℕ} {b₀ b : List ℕ} {k at last : ℕ} (s : Sof
   lines-size = lines-long (s .done) ∙ sym (s .size)
 
   -- one line more
-  pub sofar-line : (b′ : List ℕ) → k < queues → m k ≡ true → at + 8 ≤ length b → b′ ≡ take at b ++ lineOf k ++ drop (at + 8) b
-      → Sofar m place b₀ b′ (k + 1) (at + 8) k
-  sofar-line b′ h e f p =
+  pub sofar-line : {q : ℕ} (b′ : List ℕ) → q ≡ k → k < queues → m q ≡ true → at + lineSize ≤ length b
+      → b′ ≡ withLine b at q → Sofar m place b₀ b′ (k + 1) (at + lineSize) k
+  sofar-line b′ i h e f p =
       let before : take at b ≡ linesOf (s .done) = ap (take at) (s .text) ∙ take-at (linesOf (s .done)) (drop at b₀) at lines-size in
       let after : drop (at + 8) b ≡ drop (at + 8) b₀ =
       sym (drop-drop 8 at b) ∙ ap (λ (l : List ℕ). drop 8 (drop at l)) (s .text) ∙ ap (drop 8) (drop-at (linesOf (s .done)) (drop at b₀) at lines-size) ∙ drop-drop 8 at b₀ in
       let more : length (s .done ++ (k ∷ [])) ≡ length (s .done) + 1 = length-append (s .done) (k ∷ []) in
       let text′ : b′ ≡ linesOf (s .done ++ (k ∷ [])) ++ drop (at + 8) b₀ =
-      p ∙ ap₂ (λ (u v : List ℕ). u ++ lineOf k ++ v) before after ∙ ap (λ (l : List ℕ). l ++ drop (at + 8) b₀) (sym (lines-snoc (s .done) k)) in
+      rw i at p ∙ ap₂ (λ (u v : List ℕ). u ++ lineOf k ++ v) before after ∙ ap (λ (l : List ℕ). l ++ drop (at + 8) b₀) (sym (lines-snoc (s .done) k)) in
       record {
         done = s .done ++ (k ∷ []);
-        all = s .all ∙ ap (λ (l : List ℕ). s .done ++ l) (from-here k m h ∙ rw e) ∙ sym (append-snoc (s .done) k (queuesFrom (queues - (k + 1)) (k + 1) m));
+        all = s .all ∙ ap (λ (l : List ℕ). s .done ++ l) (from-here k m h ∙ rw (rw i at e)) ∙ sym (append-snoc (s .done) k (setFrom (queues - (k + 1)) (k + 1) m));
         size = omega (arith, s .size);
         fits = omega (arith, s .long);
         long = ap length text′ ∙ length-append (linesOf (s .done ++ (k ∷ []))) (drop (at + 8) b₀)
@@ -183,70 +182,75 @@ module _ {m : Bits} {place : ℕ} {b₀ b : List ℕ} {k at last : ℕ} (s : Sof
         lastly = λ _. sym (ap (λ (n : ℕ). getD (s .done ++ (k ∷ [])) n 0) (omega arith) ∙ getD-append-seam (s .done) k [] 0);
       }
 
-  written : (next : ℕ) → fitting (length b₀) place m ≡ s .done → next ≡ nextPlace (length b₀) place m → Written m place b₀ b at next
-  written next e n =
+  written : (r : Listed) → r .written ≡ at → fitting (length b₀) place m ≡ s .done → r .next ≡ nextPlace (length b₀) place m → Written m place b₀ b r
+  written r p e n =
       let size : at ≡ length (linesOf (fitting (length b₀) place m)) = sym (ap (λ (l : List ℕ). length (linesOf l)) e ∙ lines-size) in
-      record {
-        text = s .text ∙ ap₂ (λ (u : List ℕ) (v : ℕ). linesOf u ++ drop v b₀) (sym e) size;
-        size = size;
-        onward = n;
-      }
+      record { text = s .text ∙ ap₂ (λ (u : List ℕ) (v : ℕ). linesOf u ++ drop v b₀) (sym e) size; written = p ∙ size; next = n }
 
   -- a line more does not fit
-  pub sofar-full : k < queues → m k ≡ true → length b < at + 8 → 8 ≤ length b → Written m place b₀ b at (last + 1)
+  pub sofar-full : {q : ℕ} (r : Listed) → r .written ≡ at → r .next ≡ last + 1 → q ≡ k → k < queues → m q ≡ true
+      → length b < at + lineSize → lineSize ≤ length b → Written m place b₀ b r
   unfolding fitting nextPlace
-  sofar-full h e f g =
-      let rest : List ℕ = queuesFrom (queues - (k + 1)) (k + 1) m in
-      let all : queuesAt place m ≡ s .done ++ k ∷ rest = s .all ∙ ap (λ (l : List ℕ). s .done ++ l) (from-here k m h ∙ rw e) in
+  sofar-full r p n i h e f g =
+      let rest : List ℕ = setFrom (queues - (k + 1)) (k + 1) m in
+      let all : queuesAt place m ≡ s .done ++ k ∷ rest = s .all ∙ ap (λ (l : List ℕ). s .done ++ l) (from-here k m h ∙ rw (rw i at e)) in
       let count : length b₀ / 8 ≡ length (s .done) = omega (arith, s .size, s .fits, s .long) in
       let many : length (queuesAt place m) ≡ length (s .done) + length (k ∷ rest) = ap length all ∙ length-append (s .done) (k ∷ rest) in
       let beyond : length b₀ / 8 < length (queuesAt place m) = omega (arith, count, many) in
       let ended : getD (queuesAt place m) (length b₀ / 8 - 1) 0 ≡ last =
       ap₂ (λ (l : List ℕ) (n : ℕ). getD l (n - 1) 0) all count ∙ List·getD-append (s .done) (k ∷ rest) 0 (length (s .done) - 1) (omega (arith, s .size, s .long, s .fits))
       ∙ sym (s .lastly (omega (arith, s .long))) in
-      written (last + 1)
+      written r p
       (ap (take (length b₀ / 8)) all ∙ take-at (s .done) (k ∷ rest) (length b₀ / 8) (sym count))
-      (rw (lt-leb (length (queuesAt place m)) (length b₀ / 8) beyond) (ap (λ (n : ℕ). n + 1) (sym ended)))
+      (rw (lt-leb (length (queuesAt place m)) (length b₀ / 8) beyond) (n ∙ ap (λ (x : ℕ). x + 1) (sym ended)))
 
   -- all is written
-  pub sofar-end : queues ≤ k → Written m place b₀ b at queues
+  pub sofar-end : (r : Listed) → r .written ≡ at → r .next ≡ queues → queues ≤ k → Written m place b₀ b r
   unfolding fitting nextPlace
-  sofar-end h =
+  sofar-end r p n h =
       let all : queuesAt place m ≡ s .done = s .all ∙ ap (λ (l : List ℕ). s .done ++ l) (from-end k m h) ∙ append-nil (s .done) in
       let count : length (s .done) ≤ length b₀ / 8 = omega (arith, s .size, s .fits) in
-      written queues
+      written r p
       (ap (take (length b₀ / 8)) all ∙ take-all (length b₀ / 8) (s .done) count)
-      (rw (le-leb (length (queuesAt place m)) (length b₀ / 8) (omega (arith, ap length all))))
+      (rw (le-leb (length (queuesAt place m)) (length b₀ / 8) (omega (arith, ap length all))) n)
 
 -- ---- a whole call
 
-pub errno-absent : (ws : List ℕ) (i : Id) (n : ℕ) → slots ≤ slotOf i (deviceIn ws) → listErrno ws i n ≡ 2
-unfolding listErrno
-errno-absent ws i n h = rw (le-ltb (slotOf i (deviceIn ws)) slots h)
+positive : (e : Errno) → numberOf e ≡ 0 → ⊥
+unfolding numberOf
+positive Enoent h = omega arith
+positive Ebusy h = omega arith
+positive Eexist h = omega arith
+positive Enodev h = omega arith
+positive Einval h = omega arith
+positive Enospc h = omega arith
+positive Eaddrinuse h = omega arith
+positive Eaddrnotavail h = omega arith
 
-pub errno-short : (ws : List ℕ) (i : Id) (n : ℕ) → slotOf i (deviceIn ws) < slots → n < 8 → listErrno ws i n ≡ 28
-unfolding listErrno
-errno-short ws i n h l = rw (lt-ltb (slotOf i (deviceIn ws)) slots h, lt-ltb n 8 l)
+module _ (ws qs : List ℕ) (i : Id) {p : ℕ} (at : p ≡ slotOf i (deviceIn ws)) where
+  pub errno-absent : (n : ℕ) → slots ≤ p → listErrno (stateIn ws qs) i n ≡ numberOf Enoent
+  unfolding listErrno stateIn
+  errno-absent n h = rw (← at, le-ltb p slots h)
 
-pub errno-none : (ws : List ℕ) (i : Id) (n : ℕ) → slotOf i (deviceIn ws) < slots → 8 ≤ n → listErrno ws i n ≡ 0
-unfolding listErrno
-errno-none ws i n h l = rw (lt-ltb (slotOf i (deviceIn ws)) slots h, le-ltb n 8 l)
+  pub errno-short : (n : ℕ) → p < slots → n < lineSize → listErrno (stateIn ws qs) i n ≡ numberOf Enospc
+  unfolding listErrno stateIn
+  errno-short n h l = rw (← at, lt-ltb p slots h, lt-ltb n lineSize l)
 
-pub matrix-at : (ws qs : List ℕ) (i : Id) (w : Matrix) {a d : Bits} {p : ℕ} → p ≡ slotOf i (deviceIn ws)
-    → a ≡ matrixAdapters w (stateIn ws qs) (deviceIn ws p) → d ≡ matrixDomains w (stateIn ws qs) (deviceIn ws p) → inProduct a d ≡ matrix ws qs i w
-unfolding matrix
-matrix-at ws qs i w e a d =
-    ap₂ inProduct (a ∙ ap (λ (n : ℕ). matrixAdapters w (stateIn ws qs) (deviceIn ws n)) e) (d ∙ ap (λ (n : ℕ). matrixDomains w (stateIn ws qs) (deviceIn ws n)) e)
+  pub errno-none : (n : ℕ) → p < slots → lineSize ≤ n → listErrno (stateIn ws qs) i n ≡ 0
+  unfolding listErrno stateIn
+  errno-none n h l = rw (← at, lt-ltb p slots h, le-ltb n lineSize l)
 
-module _ {ws qs : List ℕ} {i : Id} {w : Matrix} {place : ℕ} {before : List ℕ} (r : Listed) where
-  pub refused-listing : (e : ℕ) → answered (r .answer) ≡ suc e → listErrno ws i (length before) ≡ suc e → r .written ≡ 0 → r .next ≡ place
-      → Listing ws qs i w place before before r
+  pub matrix-at : {w : Matrix} {m : Masks} → HasMasks w (stateIn ws qs) (deviceIn ws p) m
+      → inProduct (bits (m .adapters)) (bits (m .domains)) ≡ matrix (stateIn ws qs) i w
+  unfolding matrix stateIn
+  matrix-at h = rw (← at) (ap₂ inProduct (h .adapters) (h .domains))
+
+module _ {s : State} {i : Id} {w : Matrix} {place : ℕ} {before : List ℕ} (r : Listed) where
+  pub refused-listing : (e : Errno) → answered (r .answer) ≡ numberOf e → listErrno s i (length before) ≡ numberOf e → r .written ≡ 0 → r .next ≡ place
+      → Listing s i w place before before r
   refused-listing e a l p q =
-      let wrong : eqb (answered (r .answer)) 0 ≡ false = ap (λ (n : ℕ). eqb n 0) a ∙ eqb·suc-zero e in
-      record { answer = a ∙ sym l; text = rw wrong; written = rw wrong p; next = rw wrong q }
+      record { answer = a ∙ sym l; accepted = λ h. absurd (positive e (sym a ∙ h)); refused = λ h. record { text = refl; written = p; next = q } }
 
-  pub written-listing : {after : List ℕ} (m : Bits) → answered (r .answer) ≡ 0 → listErrno ws i (length before) ≡ 0 → m ≡ matrix ws qs i w
-      → Written m place before after (r .written) (r .next) → Listing ws qs i w place before after r
-  written-listing m a l e f =
-      let right : eqb (answered (r .answer)) 0 ≡ true = ap (λ (n : ℕ). eqb n 0) a in
-      record { answer = a ∙ sym l; text = rw (right, ← e) (f .text); written = rw (right, ← e) (f .size); next = rw (right, ← e) (f .onward) }
+  pub written-listing : {after : List ℕ} {m : Bits} → answered (r .answer) ≡ 0 → listErrno s i (length before) ≡ 0 → m ≡ matrix s i w
+      → Written m place before after r → Listing s i w place before after r
+  written-listing a l e f = record { answer = a ∙ sym l; accepted = λ h. rw e at f; refused = λ h. absurd (h a) }

@@ -1,12 +1,16 @@
 -- The listing of a matrix (01, "Listing a matrix"): a line of eight bytes for each queue, by ascending queue.
 -- Assumes nothing.
-use Prim.Native.Nat.{ℕ, zero, suc, _+_, _-_, _*_, _/_, _%_}
-use mathlib.Core.Bool.{Bool, true, false, cond}
+use Prim.Native.Nat.{ℕ, zero, suc, _+_, _-_, _/_, _%_}
+use mathlib.Core.Bool.{cond}
 use mathlib.Core.List.{List, [], _∷_, _++_}
-use lib.ListN.{length, getD, take}
+use lib.ListN.{length, getD, take, drop}
 use lib.Dec.{ltb, leb}
 use Rattle.mask.specs.Bits.{Bits}
 use Rattle.rules.specs.State.{queues, apid, apqi}
+
+-- the bytes of a line
+abbrev pub lineSize : ℕ
+lineSize = 8
 
 -- a lower-case hex digit
 unfoldable pub hexDigit : ℕ → ℕ
@@ -17,14 +21,18 @@ unfoldable pub lineOf : ℕ → List ℕ
 lineOf q =
     hexDigit (apid q / 16) ∷ hexDigit (apid q % 16) ∷ 46 ∷ 48 ∷ 48 ∷ hexDigit (apqi q / 16) ∷ hexDigit (apqi q % 16) ∷ 10 ∷ []
 
--- the queues of a matrix among the n from k on, in ascending order
-unfoldable pub queuesFrom : ℕ → ℕ → Bits → List ℕ
-queuesFrom zero k m = []
-queuesFrom (suc n) k m = cond (m k) (k ∷ queuesFrom n (suc k) m) (queuesFrom n (suc k) m)
+-- the bytes b with a queue's line from index k on
+abbrev pub withLine : List ℕ → ℕ → ℕ → List ℕ
+withLine b k q = take k b ++ lineOf q ++ drop (k + lineSize) b
+
+-- the numbers that a set has among the n from k on, in ascending order
+unfoldable pub setFrom : ℕ → ℕ → Bits → List ℕ
+setFrom zero k m = []
+setFrom (suc n) k m = cond (m k) (k ∷ setFrom n (suc k) m) (setFrom n (suc k) m)
 
 -- the queues of a matrix at or after a place
 unfoldable pub queuesAt : ℕ → Bits → List ℕ
-queuesAt place m = queuesFrom (queues - place) place m
+queuesAt place m = setFrom (queues - place) place m
 
 -- the lines of some queues
 unfoldable pub linesOf : List ℕ → List ℕ
@@ -33,8 +41,9 @@ linesOf (q ∷ qs) = lineOf q ++ linesOf qs
 
 -- the queues whose lines a call writes into a buffer of n bytes: as many whole lines as fit
 unfoldable pub fitting : ℕ → ℕ → Bits → List ℕ
-fitting n place m = take (n / 8) (queuesAt place m)
+fitting n place m = take (n / lineSize) (queuesAt place m)
 
 -- the next place: one past the last line if more remain, else one past the last queue
 unfoldable pub nextPlace : ℕ → ℕ → Bits → ℕ
-nextPlace n place m = cond (leb (length (queuesAt place m)) (n / 8)) queues (getD (queuesAt place m) (n / 8 - 1) 0 + 1)
+nextPlace n place m =
+    cond (leb (length (queuesAt place m)) (n / lineSize)) queues (getD (queuesAt place m) (n / lineSize - 1) 0 + 1)

@@ -1,9 +1,12 @@
 // Lists a device's matrix as text, part by part.
 //
-// Rests on errno, mask, rules, record, lookup and guest.
+// Rests on errno, mask, rules, record, product, lookup and guest.
 use errno::Errno;
-use mask::Mask;
+use mask::Apid;
+use mask::Apqi;
+use product::Product;
 use record::Drivers;
+use record::QUEUES;
 use record::SLOTS;
 use record::Words;
 use rules::Answer;
@@ -12,15 +15,18 @@ use rules::Masks;
 use rules::Matrix;
 ghost use Prim.Native.Nat.{_+_, _≤_, _<_};
 ghost use mathlib.Core.Path.{_≡_};
-ghost use mathlib.Core.List.{_++_};
-ghost use lib.ListN.{length, take, drop};
+ghost use lib.ListN.{length};
 ghost use Rattle.errno.specs.Errno.{numberOf};
 ghost use Rattle.mask.specs.Bits.{bits};
-ghost use Rattle.rules.specs.State.{inProduct, queues};
+ghost use Rattle.rules.specs.State.{apqn, inProduct};
 ghost use Rattle.rules.specs.Commands.{answered};
-ghost use Rattle.listing.specs.Lines.{hexDigit, lineOf, queuesAt};
-ghost use Rattle.listing.specs.Written.{Written};
-ghost use Rattle.listing.specs.Listed.{Listing};
+ghost use Rattle.record.specs.Lent.{state};
+ghost use Rattle.product.specs.Meet.{queuesOf};
+ghost use Rattle.listing.specs.Lines.{lineSize, hexDigit, withLine, queuesAt};
+ghost use Rattle.listing.specs.Listed.{Written, Listing};
+
+// The bytes of a line.
+const LINE: usize = 8;
 
 // What a listing answers: bytes written and the next place. A refused one wrote nothing and stays at its place.
 pub struct Listed {
@@ -38,19 +44,23 @@ pub fn list(
     place: usize,
     buf: &mut [u8],
 ) -> Listed
-    ensures { λ r. ⌜ Listing (now (words .entry)) (now (drivers .entry)) id matrix place (now (buf .entry)) (now (buf .exit)) r ⌝ }
+    ensures { λ r. ⌜ Listing (state (words .entry) (drivers .entry)) id matrix place (now (buf .entry)) (now (buf .exit)) r ⌝ }
 {
     let slot = lookup::find(words, id);
     if SLOTS <= slot {
         return refused(Errno::Enoent, place);
     }
-    if buf.len() < 8 {
+    if buf.len() < LINE {
         return refused(Errno::Enospc, place);
     }
     let m = guest::masks_at(words, drivers, slot, matrix);
     let adapters = m.adapters;
     let domains = m.domains;
-    write(adapters, domains, place, buf)
+    let product = Product {
+        adapters: adapters,
+        domains: domains,
+    };
+    write(product, place, buf)
 }
 
 // How many lines a whole matrix has.
@@ -73,25 +83,26 @@ fn refused(errno: Errno, place: usize) -> Listed
 }
 
 // Writes the lines of a product's queues from a place on.
-fn write(adapters: Mask, domains: Mask, place: usize, buf: &mut [u8]) -> Listed
-    requires { ⌜ 8 ≤ length (now buf) ⌝ }
-    ensures answer { λ r. ⌜ answered (r .answer) ≡ 0 ⌝ }
-    ensures lines { λ r. ⌜ Written (inProduct (bits adapters) (bits domains)) place (now (buf .entry)) (now (buf .exit)) (r .written) (r .next) ⌝ }
+fn write(product: Product, place: usize, buf: &mut [u8]) -> Listed
+    requires { ⌜ lineSize ≤ length (now buf) ⌝ }
+    ensures { λ r. ⌜ (answered (r .answer) ≡ 0) × Written (queuesOf product) place (now (buf .entry)) (now (buf .exit)) r ⌝ }
 {
     let mut queue = place;
     let mut at = 0usize;
     let mut last = 0usize;
-    while queue < 65536 {
-        if in_product(adapters, domains, queue) {
-            if buf.len() - at < 8 {
+    while queue < QUEUES {
+        let adapter = Apid((queue / 256 % 256) as u8);
+        let domain = Apqi((queue % 256) as u8);
+        if product.has(adapter, domain) {
+            if buf.len() - at < LINE {
                 return Listed {
                     answer: Answer::Done,
                     written: at,
                     next: last + 1,
                 };
             }
-            put_line(buf, at, queue);
-            at += 8;
+            put_line(buf, at, adapter, domain);
+            at += LINE;
             last = queue;
         }
         queue += 1;
@@ -99,28 +110,17 @@ fn write(adapters: Mask, domains: Mask, place: usize, buf: &mut [u8]) -> Listed
     Listed {
         answer: Answer::Done,
         written: at,
-        next: 65536,
+        next: QUEUES,
     }
 }
 
-fn in_product(adapters: Mask, domains: Mask, queue: usize) -> bool
-    requires { ⌜ queue < queues ⌝ }
-    ensures { λ r. ⌜ r ≡ inProduct (bits adapters) (bits domains) queue ⌝ }
+// Writes the line of a queue at an index of the buffer.
+fn put_line(buf: &mut [u8], at: usize, adapter: Apid, domain: Apqi)
+    requires { ⌜ at + lineSize ≤ length (now buf) ⌝ }
+    ensures { λ r. ⌜ now (buf .exit) ≡ withLine (now (buf .entry)) at (apqn adapter domain) ⌝ }
 {
-    if adapters.has((queue / 256 % 256) as u8) {
-        domains.has((queue % 256) as u8)
-    } else {
-        false
-    }
-}
-
-// Writes the line of queue k at an index of the buffer.
-fn put_line(buf: &mut [u8], at: usize, queue: usize)
-    requires { ⌜ (at + 8 ≤ length (now buf)) × (queue < queues) ⌝ }
-    ensures { λ r. ⌜ now (buf .exit) ≡ take at (now (buf .entry)) ++ lineOf queue ++ drop (at + 8) (now (buf .entry)) ⌝ }
-{
-    let a = (queue / 256 % 256) as u8;
-    let d = (queue % 256) as u8;
+    let a = adapter.0;
+    let d = domain.0;
     buf[at] = hex_digit(a / 16);
     buf[at + 1] = hex_digit(a % 16);
     buf[at + 2] = b'.';

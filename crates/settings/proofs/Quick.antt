@@ -3,21 +3,20 @@
 use Prim.Native.Nat.{ℕ}
 use mathlib.Core.Bool.{Bool, cond, not, _&&_}
 use mathlib.Core.List.{List, [], _∷_}
-use mathlib.Core.Path.{_≡_, refl, sym, ap, ap₂, subst, _∙_, fun-ext}
+use mathlib.Core.Path.{_≡_, refl, sym, ap, ap₂, _∙_, fun-ext}
 use lib.Dec.{eqb, leb}
 use Rattle.errno.specs.Outcome.{Outcome, granted, refused}
 use Rattle.errno.specs.declared.Errno.the-variants.{Enodev, Eaddrinuse, Eaddrnotavail}
 use Rattle.mask.specs.Bits.{Bits, someBelow, both, noBits, included}
 use Rattle.number.specs.Text.{numberText}
 use Rattle.masktext.specs.Text.{maskText}
-use Rattle.rules.specs.declared.Id.{Id}
 use Rattle.rules.specs.declared.Kind.{Kind}
 use Rattle.rules.specs.declared.Kind.the-variants.{Adapter, Domain, Control}
 use Rattle.rules.specs.State.{HostMasks, Device, Devices, State, slots, queues, inProduct}
 use Rattle.rules.specs.Queues as Queues
 use Rattle.rules.specs.Queues.{reserved}
 use Rattle.rules.specs.Commands as Commands
-use Rattle.rules.specs.Commands.{errnoOf, stateAfter, onDevice, reading, numbersOf, withNumbers, withDevice, withHost, limitOf, single, paired, adding, assignAt, setHost, assigned, assignedElsewhere}
+use Rattle.rules.specs.Commands.{errnoOf, stateAfter, onDevice, reading, numbersOf, withNumbers, withDevice, withHost, limitOf, single, paired, adding, assignAt, setHost, assignedElsewhere}
 use Rattle.rules.proofs.Products.{products-meet, taken-by, elsewhere-anywhere}
 use Rattle.model.specs.Steps.{Command, create, remove, openIt, closeIt, assign, unassign, setApmask, setAqmask, configure, Step, command, move, queueOf, rule, after, afterAll, answers}
 

@@ -1,11 +1,11 @@
 -- Every row of the table of settings holds.
 -- Assumes nothing.
-use Prim.Native.Nat.{ℕ, _+_, _*_, _/_, _%_, _<_, _≤_}
+use Prim.Native.Nat.{ℕ, _+_, _*_, _/_, _%_, _<_}
 use native.Mathlib.Nat.{div-add-mod', zero-min}
 use native.Mathlib.Omega.{arith}
-use mathlib.Core.Bool.{Bool, true, false, cond, not, _&&_, _||_, true≢false, false≢true, and-eq-true-iff}
+use mathlib.Core.Bool.{Bool, true, false, cond, not, _&&_, _||_}
 use mathlib.Core.List.{List, [], _∷_, _++_}
-use mathlib.Core.Path.{_≡_, refl, sym, ap, ap₂, subst, _∙_}
+use mathlib.Core.Path.{_≡_, refl, sym, ap, subst, _∙_}
 use lib.Dec.{eqb, leb}
 use lib.ListN.{replicate}
 use borrow.Author.Tests.{eqb-true, ne-eqb}
@@ -18,11 +18,10 @@ use Rattle.number.specs.Text.{digitOf, body, startsHex, digitsAfter, digits, an
 use Rattle.masktext.specs.Text.{allHex, hexMask, signed, item, andThen, items, before, parts, maskText}
 use Rattle.rules.specs.declared.Driver.{Driver}
 use Rattle.rules.specs.declared.Driver.the-variants.{Unbound, Host, Passthrough}
-use Rattle.rules.specs.declared.Moved.{Moved}
-use Rattle.rules.specs.declared.Moved.the-variants.{Idle, Released, BoundHost, BoundPassthrough}
+use Rattle.rules.specs.declared.Moved.the-variants.{Idle, Released, BoundPassthrough}
 use Rattle.rules.specs.declared.Configuration.{Configuration}
 use Rattle.rules.specs.State.{Config, State, inProduct, noDevice, fresh, queues}
-use Rattle.rules.specs.Queues.{reserved, configured, targetOf, moved, after, rebound, due, dueAt, sumBelow, remaining, moveAnswer, moves, movesUsed, passed, guestDomains, guestAdapters}
+use Rattle.rules.specs.Queues.{reserved, configured, targetOf, after, rebound, due, dueAt, remaining, moveAnswer, moves, movesUsed, passed, guestDomains, guestAdapters}
 use Rattle.rules.specs.Queues as Queues
 use Rattle.rules.specs.Commands.{errnoOf, stateAfter, sameId, firstFrom, slotOf, freeSlot, withDevice, withHost, onDevice, reading, newDevice, create, numbersOf, withNumbers, limitOf, single, stored, beyondLimits, withConfig, configure}
 use Rattle.rules.proofs.Sums.{sum-change, zero-sum}
@@ -30,8 +29,9 @@ use Rattle.rules.proofs.Moves.{remaining-moves, rebound-other}
 use Rattle.rules.proofs.Products.{product-apid, product-apqi}
 use Rattle.record.specs.Layout.{wordsOf}
 use Rattle.record.proofs.Laws.{words-bits}
-use Rattle.model.specs.Steps.{Step, command, move, queueOf, answers, afterAll}
-use Rattle.settings.specs.Table.{Row, maskWith, setFrom, setBits, shown, maskOrNone, readMask, idOf, wordsWith, limited, unreserved, twoDevices, oneUnbound, new, adapter, domain, apmask, aqmask, config, Every, Says, table}
+use Rattle.model.specs.Steps.{Step, move, queueOf, answers, afterAll}
+use Rattle.listing.specs.Lines.{setFrom}
+use Rattle.settings.specs.Table.{maskWith, setBits, shown, maskOrNone, readMask, idOf, wordsWith, limited, unreserved, twoDevices, oneUnbound, new, adapter, domain, apmask, aqmask, config, Every, table}
 use Rattle.settings.proofs.Quick.{pairedAdapters, pairedDomains, meetsHost, meetsElsewhere, quickAssignAt, quickSetHost, quickRule, quickAnswers, quickAfter, answers-quick, after-quick}
 
 -- ---- what is computed: texts and masks
@@ -196,54 +196,35 @@ by-list steps n e = answers-quick steps (limited n) ∙ e
 by-guest : (f : State → List ℕ) (steps : List Step) {to : List ℕ} → f (quickAfter steps (limited 255)) ≡ to → f (afterAll steps (limited 255)) ≡ to
 by-guest f steps e = ap f (after-quick steps (limited 255)) ∙ e
 
+abbrev adaptersOf : State → List ℕ
+adaptersOf s = setBits (guestAdapters s (s .device 0))
+
+abbrev domainsOf : State → List ℕ
+domainsOf s = setBits (guestDomains s (s .device 0))
+
+infixr 5 _▸_
+-- a row and the rows after it
+_▸_ : {A B : Type 0} → A → B → A × B
+a ▸ b = (a, b)
+
 pub settings : Every table
 unfolding table maskWith
-settings = (
-  texts .0,
-  (
-    texts .1,
-    (
-      texts .2,
-      (
-        texts .3,
-        (
-          texts .4,
-          (
-            texts .5,
-            (
-              texts .6,
-              (
-                texts .7,
-                (
-                  by-list twoDevices 255 (lists .0),
-                  (
-                    by-list (twoDevices ++ (domain 2 "6" ∷ [])) 255 (lists .1),
-                    (
-                      by-list (new 1 ∷ adapter 1 "5" ∷ domain 1 "4" ∷ []) 255 (lists .2),
-                      (
-                        by-list (new 1 ∷ adapter 1 "63" ∷ adapter 1 "64" ∷ []) 63 (lists .3),
-                        (
-                          (by-guest (λ t. setBits (guestAdapters t (t .device 0))) oneUnbound (guest-lists .0), by-guest (λ t. setBits (guestDomains t (t .device 0))) oneUnbound (guest-lists .1)),
-                          (
-                            (by-guest (λ t. setBits (guestAdapters t (t .device 0))) fewer (guest-lists .2), by-guest (λ t. setBits (guestDomains t (t .device 0))) fewer (guest-lists .3)),
-                            (
-                              by-list regained 255 (lists .4),
-                              (
-                                by-list clash 255 (lists .5),
-                                (settled (afterAll exchange (limited 255)) (after-quick exchange (limited 255)), tt),
-                              ),
-                            ),
-                          ),
-                        ),
-                      ),
-                    ),
-                  ),
-                ),
-              ),
-            ),
-          ),
-        ),
-      ),
-    ),
-  ),
-)
+settings =
+    texts .0
+    ▸ texts .1
+    ▸ texts .2
+    ▸ texts .3
+    ▸ texts .4
+    ▸ texts .5
+    ▸ texts .6
+    ▸ texts .7
+    ▸ by-list twoDevices 255 (lists .0)
+    ▸ by-list (twoDevices ++ (domain 2 "6" ∷ [])) 255 (lists .1)
+    ▸ by-list (new 1 ∷ adapter 1 "5" ∷ domain 1 "4" ∷ []) 255 (lists .2)
+    ▸ by-list (new 1 ∷ adapter 1 "63" ∷ adapter 1 "64" ∷ []) 63 (lists .3)
+    ▸ (by-guest adaptersOf oneUnbound (guest-lists .0), by-guest domainsOf oneUnbound (guest-lists .1))
+    ▸ (by-guest adaptersOf fewer (guest-lists .2), by-guest domainsOf fewer (guest-lists .3))
+    ▸ by-list regained 255 (lists .4)
+    ▸ by-list clash 255 (lists .5)
+    ▸ settled (afterAll exchange (limited 255)) (after-quick exchange (limited 255))
+    ▸ tt

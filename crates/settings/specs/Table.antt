@@ -1,8 +1,8 @@
 -- 01's "Settings to try" that are marked *: inputs and outcomes, one row for each.
 -- Assumes nothing.
-use Prim.Native.Nat.{ℕ, zero, suc, _+_, _*_}
+use Prim.Native.Nat.{ℕ, _+_, _*_}
 use Prim.Native.String.{String}
-use mathlib.Core.Bool.{Bool, true, false, cond}
+use mathlib.Core.Bool.{Bool, true, false}
 use mathlib.Core.List.{List, [], _∷_, _++_}
 use mathlib.Core.Path.{_≡_}
 use lib.ListN.{replicate}
@@ -13,24 +13,18 @@ use Rattle.mask.specs.Bits.{Bits, noBits, included, numbers}
 use Rattle.mask.specs.declared.Mask.{Mask}
 use Rattle.masktext.specs.Text.{maskText}
 use Rattle.rules.specs.declared.Id.{Id}
-use Rattle.rules.specs.declared.Kind.{Kind}
-use Rattle.rules.specs.declared.Kind.the-variants.{Adapter, Domain, Control}
-use Rattle.rules.specs.declared.Configuration.{Configuration}
+use Rattle.rules.specs.declared.Kind.the-variants.{Adapter, Domain}
 use Rattle.rules.specs.declared.Moved.{Moved}
-use Rattle.rules.specs.declared.Moved.the-variants.{Idle, Released, BoundHost, BoundPassthrough}
-use Rattle.rules.specs.State.{Limits, State, fresh}
+use Rattle.rules.specs.declared.Moved.the-variants.{Idle, Released, BoundPassthrough}
+use Rattle.rules.specs.State.{State, fresh}
 use Rattle.rules.specs.Queues.{reserved, guestAdapters, guestDomains, remaining, moveAnswer, moves, movesUsed}
+use Rattle.listing.specs.Lines.{setFrom}
 use Rattle.model.specs.Steps.{Step, command, move, create, assign, setApmask, setAqmask, configure, afterAll, answers}
 
 -- the mask with just these bits set
 unfoldable pub maskWith : List ℕ → Bits
 maskWith [] = noBits
 maskWith (n ∷ ns) = included n (maskWith ns)
-
--- the set bits among the n from k on, in ascending order
-unfoldable pub setFrom : ℕ → ℕ → Bits → List ℕ
-setFrom zero k m = []
-setFrom (suc n) k m = cond (m k) (k ∷ setFrom n (suc k) m) (setFrom n (suc k) m)
 
 -- the set bits of a mask
 unfoldable pub setBits : Bits → List ℕ

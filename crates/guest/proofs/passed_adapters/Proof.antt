@@ -10,7 +10,7 @@ use borrow.Author.Needs.{needs}
 use borrow.Author.Tests.{le-ltb}
 use Rattle.mask.specs.Bits.{Bits, bits}
 use Rattle.mask.proofs.Laws.{past-end, mask-words}
-use Rattle.guest.specs.Row.{heldBack, heldAt}
+use Rattle.guest.specs.Row.{heldBack}
 use Rattle.guest.proofs.Laws.{next-look, all-looked}
 use Rattle.guest.proofs.passed_adapters.Statement.{statement}
 use Rattle.guest.proofs.passed_adapters.Tie as tie

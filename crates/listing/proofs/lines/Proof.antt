@@ -4,18 +4,12 @@ use Prim.Native.Nat.{_*_, _≤_}
 use native.Mathlib.Omega.{arith}
 use native.Mathlib.Nat.{mul-le-mul}
 use mathlib.Core.Path.{ap₂, sym, _∙_}
+use borrow.Author.Needs.{needs}
 use Rattle.mask.specs.Bits.{bits}
 use Rattle.mask.proofs.Laws.{count-le}
 use Rattle.listing.proofs.Laws.{matrix-lines}
-use borrow.Author.Needs.{needs}
 use Rattle.listing.proofs.lines.Statement.{statement}
 use Rattle.listing.proofs.lines.Tie as tie
-
-count-requires : tie.Need-count-requires
-count-requires c κs = search needs
-
-count-requires-2 : tie.Need-count-requires-2
-count-requires-2 c κs = search needs
 
 mul-result : tie.Need-mul-result
 mul-result c =
@@ -30,4 +24,4 @@ returns c =
     ap₂ _*_ (c .before .count .ensures) (c .count2 .ensures) ∙ sym (matrix-lines (bits (a .adapters)) (bits (a .domains)))
 
 pub lines-spec : {M : Type 1} → statement M
-lines-spec = tie.close (tie.spec count-requires count-requires-2 mul-result returns)
+lines-spec = tie.close (tie.spec (λ c κs. search needs) (λ c κs. search needs) mul-result returns)
