@@ -1,9 +1,8 @@
 -- `sweep` meets its contract. The invariant: what is left to do from the queue on gives the bytes of the whole sweep.
 -- Assumes nothing.
-use Prim.Native.Nat.{ℕ, _+_, _-_, _<_, min}
+use Prim.Native.Nat.{_+_, _-_, _<_, min}
 use native.Mathlib.Omega.{arith}
 use mathlib.Core.Path.{_≡_, sym, subst, _∙_}
-use mathlib.Core.List.{List}
 use lib.ListN.{length}
 use mathlib.Core.Logic.{⊎-elim}
 use denote.Ref.{now}
