@@ -15,7 +15,7 @@ ghost use Rattle.rules.specs.State.{queues, apqn};
 ghost use Rattle.record.specs.Lent.{host, config, state};
 ghost use Rattle.bind.specs.Moves.{movesBytes, finishedBytes, Moves, Sweeps, Remains};
 
-// A larger budget is taken as this one, which moves every queue twice.
+// A larger budget is taken as this one: two moves of each queue.
 const MOST_MOVES: u32 = 131072;
 
 // What a sweep reports: the moves it made, and whether any remain.

@@ -5,7 +5,7 @@ use native.Mathlib.Nat.{mod-lt, div-lt-iff-lt-mul}
 use native.Mathlib.Omega.{arith}
 use mathlib.Core.Bool.{Bool, true, false, cond, not, _&&_, _||_, true≢false}
 use mathlib.Core.List.{List, [], _∷_}
-use mathlib.Core.Path.{_≡_, refl, sym, ap, ap₂, subst, _∙_, fun-ext}
+use mathlib.Core.Path.{_≡_, refl, sym, ap, ap₂, _∙_, fun-ext}
 use lib.Dec.{eqb, ltb, leb, lit<}
 use borrow.Author.Tests.{lt-ltb, le-ltb, ltb-true, ltb-false, leb-true, leb-false, eqb-true}
 use Rattle.errno.specs.Outcome.{Outcome, granted, refused}
@@ -26,7 +26,7 @@ use Rattle.rules.specs.Commands as Commands
 use Rattle.rules.specs.Commands.{errnoOf, stateAfter, slotOf, freeSlot, sameId, firstFrom, withDevice, withHost, withConfig, onDevice, reading, newDevice, withOpen, numbersOf, withNumbers, limitOf, single, paired, adding, assignAt, setHost, stored, beyondLimits, product, assigned, assignedElsewhere}
 use Rattle.rules.proofs.First.{first-holds, first-before}
 use Rattle.rules.proofs.Products.{queue-apid, queue-apqi, queue-below}
-use Rattle.rules.proofs.Refusals.{same-numbers}
+use Rattle.rules.proofs.Refusals.{absorbed, same-numbers}
 use Rattle.model.specs.Steps.{Command, create, remove, openIt, closeIt, assign, unassign, setApmask, setAqmask, configure, Step, command, move, rule, after, afterAll, answers, commandsOf, queueOf}
 use Rattle.model.specs.Model.{Model, Reply, most, somePair, named, known, room, lowest, slot, its, holds, anotherHolds, someHolds, reserved, new, highest, bitAbove, put, bare, nobody, marked, turned, turn, masked, given, judged, withText, reply, start, replies, kept}
 
@@ -143,18 +143,7 @@ module _ (i : Id) (s : State) where
 -- a device put at a slot is put there in the model
 put-same : (j : ℕ) (u w : Device) (s : State) → u ≡ w → put j u (erase s) ≡ erase (withDevice j w s)
 unfolding put erase withDevice
-put-same j u w s e =
-    ap {B = Model} (λ (x : Device). record {
-      highestAdapter = s .limits .adapter;
-      highestDomain = s .limits .domain;
-      apmask = s .host .apmask;
-      aqmask = s .host .aqmask;
-      adapters = s .config .adapters;
-      domains = s .config .domains;
-      controls = s .config .controls;
-      types = s .config .types;
-      device = λ k. cond (eqb k j) x (s .device k);
-    }) e
+put-same j u w s e = ap (λ (x : Device). put j x (erase s)) e
 
 -- a new device, and an empty slot
 bare-new : (i : Id) → bare true i ≡ newDevice i
@@ -263,25 +252,14 @@ turned-same o k n x b s e = put-same x (turn o k n (s .device x)) (withNumbers k
 
 unassigned : (k : Kind) (i : Id) (text : List ℕ) (s : State) → Agrees s (Commands.unassign k i text s) (reply (unassign k i text) (erase s))
 unfolding Commands.unassign reply judged its erase
-unassigned k i text s = with-text s (numberText text) (λ n. onDevice i s (next n)) _ (λ n. on-device i s (next n) (u n) (at n (slotOf i (s .device))))
-  where
-    t : ℕ → ℕ → State
-    t n x = withDevice x (withNumbers k (excluded n (numbersOf k (s .device x))) (s .device x)) s
-
-    next : ℕ → ℕ → Outcome State
-    next n x = cond (leb n (limitOf k (s .limits))) (granted (t n x)) (refused Enodev)
-
-    done : ℕ → ℕ → Reply
-    done n x = record { errno = 0; next = put x (turn false k n (erase s .device x)) (erase s) }
-
-    u : ℕ → ℕ → Reply
-    u n x = cond (ltb (highest k (erase s)) n) (record { errno = numberOf Enodev; next = erase s }) (done n x)
-
-    at : (n x : ℕ) → Agrees s (next n x) (u n x)
-    at n x =
-        within k n s (granted (t n x)) (done n x)
-        (grants s (t n x) (put x (turn false k n (s .device x)) (erase s))
-        (turned-same false k n x (excluded n (numbersOf k (s .device x))) s (turned-off n (numbersOf k (s .device x)))))
+unassigned k i text s =
+    let x = slotOf i (s .device) in
+    with-text s (numberText text) _ _
+    (λ n. on-device i s _
+    (λ x. cond (ltb (highest k (erase s)) n) (no s Enodev) (record { errno = 0; next = put x (turn false k n (s .device x)) (erase s) }))
+    (within k n s _ _
+    (grants s (withDevice x (withNumbers k (excluded n (numbersOf k (s .device x))) (s .device x)) s) _
+    (turned-same false k n x (excluded n (numbersOf k (s .device x))) s (turned-off n (numbersOf k (s .device x)))))))
 
 -- ---- assigning
 
@@ -304,117 +282,73 @@ no-pair : (f : ℕ → ℕ → Bool) → ((a d : ℕ) → f a d ≡ false) → s
 unfolding somePair
 no-pair f e = none-some 256 (λ a. someBelow 256 (λ d. f a d)) (λ a h. none-some 256 (λ d. f a d) (λ d l. e a d))
 
--- bit n is set already
-set-already : (n : ℕ) (b : Bits) → b n ≡ true → turned true n b ≡ b
-unfolding turned
-set-already n b e = fun-ext (λ i. go i (eqb i n) refl)
-  where
-    go : (i : ℕ) (x : Bool) → eqb i n ≡ x → cond x true (b i) ≡ b i
-    go i true h = sym (ap b (eqb-true i n h) ∙ e)
-    go i false h = refl
-
 -- a device put where it is
 put-back : (x : ℕ) (w : Device) (s : State) → w ≡ s .device x → put x w (erase s) ≡ erase s
 unfolding put erase
 put-back x w s e =
-    ap {B = Model} (λ (f : ℕ → Device). record {
-      highestAdapter = s .limits .adapter;
-      highestDomain = s .limits .domain;
-      apmask = s .host .apmask;
-      aqmask = s .host .aqmask;
-      adapters = s .config .adapters;
-      domains = s .config .domains;
-      controls = s .config .controls;
-      types = s .config .types;
-      device = f;
-    }) (fun-ext (λ j. go j (eqb j x) refl))
+    ap (λ (f : ℕ → Device). erase (record { limits = s .limits; host = s .host; config = s .config; device = f; driver = s .driver }))
+    (fun-ext (λ j. go j (eqb j x) refl))
   where
     go : (j : ℕ) (b : Bool) → eqb j x ≡ b → cond b w (s .device j) ≡ s .device j
     go j true h = e ∙ ap (s .device) (sym (eqb-true j x h))
     go j false h = refl
 
 module _ (k : Kind) (n x : ℕ) (s : State) where
-  hit99 : Bool
-  hit99 = somePair (λ a d. new k n (s .device x) a d && reserved (erase s) a d)
-
-  hit98 : Bool
-  hit98 = somePair (λ a d. new k n (s .device x) a d && anotherHolds (erase s) x a d)
+  -- some new pair is in f
+  hit : (ℕ → ℕ → Bool) → Bool
+  hit f = somePair (λ a d. new k n (s .device x) a d && f a d)
 
   done : Reply
   done = record { errno = 0; next = put x (turn true k n (s .device x)) (erase s) }
 
   checked : Reply
-  checked = cond hit99 (record { errno = numberOf Eaddrnotavail; next = erase s }) (cond hit98 (record { errno = numberOf Eaddrinuse; next = erase s }) done)
+  checked = cond (hit (reserved (erase s))) (no s Eaddrnotavail) (cond (hit (anotherHolds (erase s) x)) (no s Eaddrinuse) done)
 
-  same99 : numbersOf k (s .device x) n ≡ false → someBelow queues (both (paired k n (s .device x)) (Queues.reserved (s .host))) ≡ hit99
-  unfolding hit99 both Queues.reserved inProduct reserved erase
-  same99 e =
-      some-cong queues (λ q. paired k n (s .device x) q && (s .host .apmask (q / 256) && s .host .aqmask (q % 256)))
-      (λ q. new k n (s .device x) (q / 256) (q % 256) && (s .host .apmask (q / 256) && s .host .aqmask (q % 256)))
-      (λ q h. ap (λ (b : Bool). b && (s .host .apmask (q / 256) && s .host .aqmask (q % 256))) (new-paired k n (s .device x) q e))
-      ∙ some-pair (λ a d. new k n (s .device x) a d && (s .host .apmask a && s .host .aqmask d))
+  hit-new : (f : ℕ → ℕ → Bool) → numbersOf k (s .device x) n ≡ false → someBelow queues (λ q. paired k n (s .device x) q && f (q / 256) (q % 256)) ≡ hit f
+  unfolding hit
+  hit-new f e =
+      some-cong queues (λ q. paired k n (s .device x) q && f (q / 256) (q % 256)) (λ q. new k n (s .device x) (q / 256) (q % 256) && f (q / 256) (q % 256))
+      (λ q h. ap (λ (b : Bool). b && f (q / 256) (q % 256)) (new-paired k n (s .device x) q e))
+      ∙ some-pair (λ a d. new k n (s .device x) a d && f a d)
 
-  same98 : numbersOf k (s .device x) n ≡ false → someBelow queues (both (paired k n (s .device x)) (assignedElsewhere x (s .device))) ≡ hit98
-  unfolding hit98 both assignedElsewhere product inProduct anotherHolds holds erase
-  same98 e =
-      some-cong queues (λ q. paired k n (s .device x) q && elsewhere (q / 256) (q % 256))
-      (λ q. new k n (s .device x) (q / 256) (q % 256) && elsewhere (q / 256) (q % 256))
-      (λ q h. ap (λ (b : Bool). b && elsewhere (q / 256) (q % 256)) (new-paired k n (s .device x) q e))
-      ∙ some-pair (λ a d. new k n (s .device x) a d && elsewhere a d)
-    where
-      elsewhere : ℕ → ℕ → Bool
-      elsewhere a d = someBelow slots (λ j. not (eqb j x) && (s .device j .present && (s .device j .adapters a && s .device j .domains d)))
+  hit-none : (f : ℕ → ℕ → Bool) → numbersOf k (s .device x) n ≡ true → hit f ≡ false
+  unfolding hit
+  hit-none f e = no-pair _ (λ a d. ap (λ (b : Bool). b && f a d) (new-none k n (s .device x) a d e))
 
   at-slot : (b : Bool) → numbersOf k (s .device x) n ≡ b
       → Agrees s
       (cond b (granted s) (adding (paired k n (s .device x)) x s (withDevice x (withNumbers k (included n (numbersOf k (s .device x))) (s .device x)) s)))
       checked
-  unfolding checked done adding hit99 hit98
+  unfolding checked done adding both Queues.reserved inProduct assignedElsewhere product reserved anotherHolds holds erase
   at-slot true e =
-      let a : hit99 ≡ false = no-pair (λ a d. new k n (s .device x) a d && reserved (erase s) a d) (λ a d. ap (λ (b : Bool). b && reserved (erase s) a d) (new-none k n (s .device x) a d e)) in
-      let b : hit98 ≡ false = no-pair (λ a d. new k n (s .device x) a d && anotherHolds (erase s) x a d) (λ a d. ap (λ (b : Bool). b && anotherHolds (erase s) x a d) (new-none k n (s .device x) a d e)) in
-      subst (λ (c : Bool). Agrees s (granted s) (cond c (record { errno = numberOf Eaddrnotavail; next = erase s }) (cond hit98 (record { errno = numberOf Eaddrinuse; next = erase s }) done))) (sym a)
-      (subst (λ (c : Bool). Agrees s (granted s) (cond c (record { errno = numberOf Eaddrinuse; next = erase s }) done)) (sym b)
-      (grants s s (put x (turn true k n (s .device x)) (erase s))
-      (put-back x (turn true k n (s .device x)) s
-      (turn-as true k n (s .device x) (numbersOf k (s .device x)) (set-already n (numbersOf k (s .device x)) e) ∙ same-numbers k (s .device x)))))
+      let m = numbersOf k (s .device x) in
+      rw (hit-none (reserved (erase s)) e, hit-none (anotherHolds (erase s) x) e)
+      (grants s s _ (put-back x (turn true k n (s .device x)) s (turn-as true k n (s .device x) m (turned-on n m ∙ absorbed n m e) ∙ same-numbers k (s .device x))))
   at-slot false e =
-      let t = withDevice x (withNumbers k (included n (numbersOf k (s .device x))) (s .device x)) s in
-      subst (λ (c : Bool). Agrees s (cond c (refused Eaddrnotavail) (cond (someBelow queues (both (paired k n (s .device x)) (assignedElsewhere x (s .device)))) (refused Eaddrinuse) (granted t))) checked)
-      (sym (same99 e))
-      (same-way s hit99 (refused Eaddrnotavail) (cond (someBelow queues (both (paired k n (s .device x)) (assignedElsewhere x (s .device)))) (refused Eaddrinuse) (granted t))
-      (record { errno = numberOf Eaddrnotavail; next = erase s }) (cond hit98 (record { errno = numberOf Eaddrinuse; next = erase s }) done) (refuses s Eaddrnotavail)
-      (subst (λ (c : Bool). Agrees s (cond c (refused Eaddrinuse) (granted t)) (cond hit98 (record { errno = numberOf Eaddrinuse; next = erase s }) done)) (sym (same98 e))
-      (same-way s hit98 (refused Eaddrinuse) (granted t) (record { errno = numberOf Eaddrinuse; next = erase s }) done (refuses s Eaddrinuse)
-      (grants s t (put x (turn true k n (s .device x)) (erase s))
-      (turned-same true k n x (included n (numbersOf k (s .device x))) s (turned-on n (numbersOf k (s .device x))))))))
+      let m = included n (numbersOf k (s .device x)) in
+      rw (hit-new (reserved (erase s)) e, hit-new (anotherHolds (erase s) x) e)
+      (same-way s (hit (reserved (erase s))) _ _ _ _ (refuses s Eaddrnotavail)
+      (same-way s (hit (anotherHolds (erase s) x)) _ _ _ _ (refuses s Eaddrinuse)
+      (grants s (withDevice x (withNumbers k m (s .device x)) s) _ (turned-same true k n x m s (turned-on n (numbersOf k (s .device x)))))))
 
 assigned-same : (k : Kind) (i : Id) (text : List ℕ) (s : State) → Agrees s (Commands.assign k i text s) (reply (assign k i text) (erase s))
-unfolding Commands.assign assignAt reply judged its erase checked done hit99 hit98
-assigned-same k i text s = with-text s (numberText text) (λ n. onDevice i s (next n)) _ (λ n. on-device i s (next n) (u n) (at n (slotOf i (s .device))))
-  where
-    next : ℕ → ℕ → Outcome State
-    next n x = cond (leb n (limitOf k (s .limits))) (assignAt k n x s) (refused Enodev)
-
-    u : ℕ → ℕ → Reply
-    u n x = cond (ltb (highest k (erase s)) n) (record { errno = numberOf Enodev; next = erase s }) (checked k n x s)
-
-    at : (n x : ℕ) → Agrees s (next n x) (u n x)
-    at n x = within k n s (assignAt k n x s) (checked k n x s) (at-slot k n x s (numbersOf k (s .device x) n) refl)
+unfolding Commands.assign assignAt reply judged its erase checked done hit
+assigned-same k i text s =
+    let x = slotOf i (s .device) in
+    with-text s (numberText text) _ _
+    (λ n. on-device i s _ (λ x. cond (ltb (highest k (erase s)) n) (no s Enodev) (checked k n x s))
+    (within k n s (assignAt k n x s) (checked k n x s) (at-slot k n x s (numbersOf k (s .device x) n) refl)))
 
 -- ---- the host's masks and the configuration
 
 masked-same : (ap aq : Bits) (s : State)
     → Agrees s (setHost (record { apmask = ap; aqmask = aq }) s)
-    (cond (somePair (λ a d. (ap a && aq d) && someHolds (erase s) a d)) (record { errno = numberOf Eaddrinuse; next = erase s }) (record { errno = 0; next = masked ap aq (erase s) }))
+    (cond (somePair (λ a d. (ap a && aq d) && someHolds (erase s) a d)) (no s Eaddrinuse) (record { errno = 0; next = masked ap aq (erase s) }))
 unfolding setHost both Queues.reserved inProduct assigned product someHolds holds erase masked withHost
 masked-same ap aq s =
-    subst (λ (b : Bool). Agrees s (cond b (refused Eaddrinuse) (granted (withHost (record { apmask = ap; aqmask = aq }) s)))
-    (cond (somePair (λ a d. (ap a && aq d) && someHolds (erase s) a d)) (record { errno = numberOf Eaddrinuse; next = erase s }) (record { errno = 0; next = masked ap aq (erase s) })))
-    (sym (some-pair (λ a d. (ap a && aq d) && someHolds (erase s) a d)))
-    (same-way s (somePair (λ a d. (ap a && aq d) && someHolds (erase s) a d)) (refused Eaddrinuse) (granted (withHost (record { apmask = ap; aqmask = aq }) s))
-    (record { errno = numberOf Eaddrinuse; next = erase s }) (record { errno = 0; next = masked ap aq (erase s) }) (refuses s Eaddrinuse)
-    (grants s (withHost (record { apmask = ap; aqmask = aq }) s) (masked ap aq (erase s)) refl))
+    let hit : ℕ → ℕ → Bool = λ a d. (ap a && aq d) && someHolds (erase s) a d in
+    rw (some-pair hit)
+    (same-way s (somePair hit) _ _ _ _ (refuses s Eaddrinuse) (grants s (withHost (record { apmask = ap; aqmask = aq }) s) (masked ap aq (erase s)) refl))
 
 apmask-same : (text : List ℕ) (s : State) → Agrees s (Commands.setApmask text s) (reply (setApmask text) (erase s))
 unfolding Commands.setApmask reply judged erase
@@ -446,38 +380,10 @@ given-same c s = refl
 configured-same : (c : Configuration) (s : State) → Agrees s (Commands.configure c s) (reply (configure c) (erase s))
 unfolding Commands.configure reply judged beyondLimits erase
 configured-same c s =
-    subst (λ (b : Bool). Agrees s (cond (b || y || z) (refused Enodev) g) (cond (bitAbove (s .limits .adapter) (bits (c .adapters))) u (cond y′ u (cond z′ u d))))
-    (sym (above-same (s .limits .adapter) (bits (c .adapters))))
-    (subst (λ (b : Bool). Agrees s (cond (x′ || b || z) (refused Enodev) g) (cond x′ u (cond y′ u (cond z′ u d)))) (sym (above-same (s .limits .domain) (bits (c .domains))))
-    (subst (λ (b : Bool). Agrees s (cond (x′ || y′ || b) (refused Enodev) g) (cond x′ u (cond y′ u (cond z′ u d)))) (sym (above-same (s .limits .domain) (bits (c .controls))))
-    (three-ways s x′ y′ z′ g u d (refuses s Enodev) last)))
-  where
-    x′ : Bool
-    x′ = bitAbove (s .limits .adapter) (bits (c .adapters))
-
-    y′ : Bool
-    y′ = bitAbove (s .limits .domain) (bits (c .domains))
-
-    z′ : Bool
-    z′ = bitAbove (s .limits .domain) (bits (c .controls))
-
-    y : Bool
-    y = someBelow 256 (both (bits (c .domains)) (bitsAbove (s .limits .domain)))
-
-    z : Bool
-    z = someBelow 256 (both (bits (c .controls)) (bitsAbove (s .limits .domain)))
-
-    g : Outcome State
-    g = granted (withConfig (stored c) s)
-
-    u : Reply
-    u = record { errno = numberOf Enodev; next = erase s }
-
-    d : Reply
-    d = record { errno = 0; next = given c (erase s) }
-
-    last : Agrees s g d
-    last = grants s (withConfig (stored c) s) (given c (erase s)) (given-same c s)
+    let l = s .limits in
+    rw (above-same (l .adapter) (bits (c .adapters)), above-same (l .domain) (bits (c .domains)), above-same (l .domain) (bits (c .controls)))
+    (three-ways s (bitAbove (l .adapter) (bits (c .adapters))) (bitAbove (l .domain) (bits (c .domains))) (bitAbove (l .domain) (bits (c .controls))) _ _ _
+    (refuses s Enodev) (grants s (withConfig (stored c) s) (given c (erase s)) (given-same c s)))
 
 -- ---- every command, and every list
 

@@ -110,28 +110,23 @@ module _ (s : State) (h : Exclusive s) where
   removed : (i : Id) → Exclusive (stateAfter s (Commands.remove i s))
   unfolding Commands.remove noDevice
   removed i =
-      on-device i _
-      (λ l. either-way (s .device (slotOf i (s .device)) .isOpen) _ _ (λ e. refuse Ebusy)
-      (λ e. grant (withDevice (slotOf i (s .device)) noDevice s) (bare (slotOf i (s .device)) noDevice refl refl)))
+      let p = slotOf i (s .device) in
+      on-device i _ (λ l. either-way (s .device p .isOpen) _ _ (λ e. refuse Ebusy) (λ e. grant (withDevice p noDevice s) (bare p noDevice refl refl)))
 
-  marked : (i : Id) (o : Bool) → slotOf i (s .device) < slots → Exclusive (withDevice (slotOf i (s .device)) (withOpen o (s .device (slotOf i (s .device)))) s)
+  marked : (i : Id) (o : Bool) → slotOf i (s .device) < slots
+      → Exclusive (stateAfter s (granted (withDevice (slotOf i (s .device)) (withOpen o (s .device (slotOf i (s .device)))) s)))
   unfolding withOpen product
   marked i o l =
-      put-less (slotOf i (s .device)) (withOpen o (s .device (slotOf i (s .device)))) s h l (λ t. slot-present i (s .device) l) (λ q a. a)
+      let p = slotOf i (s .device) in
+      grant (withDevice p (withOpen o (s .device p)) s) (put-less p (withOpen o (s .device p)) s h l (λ t. slot-present i (s .device) l) (λ q a. a))
 
   opened : (i : Id) → Exclusive (stateAfter s (Commands.openDevice i s))
   unfolding Commands.openDevice
-  opened i =
-      on-device i _
-      (λ l. either-way (s .device (slotOf i (s .device)) .isOpen) _ _ (λ e. refuse Ebusy)
-      (λ e. grant (withDevice (slotOf i (s .device)) (withOpen true (s .device (slotOf i (s .device)))) s) (marked i true l)))
+  opened i = on-device i _ (λ l. either-way (s .device (slotOf i (s .device)) .isOpen) _ _ (λ e. refuse Ebusy) (λ e. marked i true l))
 
   closed : (i : Id) → Exclusive (stateAfter s (Commands.closeDevice i s))
   unfolding Commands.closeDevice
-  closed i =
-      on-device i _
-      (λ l. either-way (s .device (slotOf i (s .device)) .isOpen) _ _
-      (λ e. grant (withDevice (slotOf i (s .device)) (withOpen false (s .device (slotOf i (s .device)))) s) (marked i false l)) (λ e. refuse Einval))
+  closed i = on-device i _ (λ l. either-way (s .device (slotOf i (s .device)) .isOpen) _ _ (λ e. marked i false l) (λ e. refuse Einval))
 
 -- the flags of a device do not change with its numbers
 same-flags : (k : Kind) (m : Bits) (v : Device) → (v .isOpen ≡ true → v .present ≡ true) → withNumbers k m v .isOpen ≡ true → withNumbers k m v .present ≡ true
@@ -164,13 +159,13 @@ module _ (s : State) (h : Exclusive s) where
   unassigned : (k : Kind) (i : Id) (text : List ℕ) → Exclusive (stateAfter s (Commands.unassign k i text s))
   unfolding Commands.unassign
   unassigned k i text =
+      let p = slotOf i (s .device) in
+      let v = s .device p in
       with-text s h (numberText text) _
-      (λ n. on-device s h i _
+      (λ n. let m = excluded n (numbersOf k v) in
+      on-device s h i _
       (λ l. either-way s h (leb n (limitOf k (s .limits))) _ _
-      (λ e. grant s h (withDevice (slotOf i (s .device)) (withNumbers k (excluded n (numbersOf k (s .device (slotOf i (s .device))))) (s .device (slotOf i (s .device)))) s)
-      (put-less (slotOf i (s .device)) (withNumbers k (excluded n (numbersOf k (s .device (slotOf i (s .device))))) (s .device (slotOf i (s .device)))) s h l
-      (same-flags k (excluded n (numbersOf k (s .device (slotOf i (s .device))))) (s .device (slotOf i (s .device))) (h .there (slotOf i (s .device))))
-      (fewer k n (s .device (slotOf i (s .device))))))
+      (λ e. grant s h (withDevice p (withNumbers k m v) s) (put-less p (withNumbers k m v) s h l (same-flags k m v (h .there p)) (fewer k n v)))
       (λ e. refuse s h Enodev)))
 
   -- a number that is assigned past the check for EADDRINUSE

@@ -1,9 +1,8 @@
 -- `sweep` meets its contract. The invariant: what is left to do from the queue on gives the bytes of the whole sweep.
 -- Assumes nothing.
-use Prim.Native.Nat.{ℕ, _+_, _-_, _<_, min}
+use Prim.Native.Nat.{_+_, _-_, _<_, min}
 use native.Mathlib.Omega.{arith}
 use mathlib.Core.Path.{_≡_, sym, subst, _∙_}
-use mathlib.Core.List.{List}
 use lib.ListN.{length}
 use mathlib.Core.Logic.{⊎-elim}
 use denote.Ref.{now}
@@ -31,37 +30,37 @@ loop-holds c =
 
 settle-requires : tie.Need-settle-requires Inv-loop μ-loop
 settle-requires c κs =
-    let l = c .before .before .before .before .before .loop in
-    (search needs, omega (arith, c .before .before .need-at .ensures .0, due-two (stateIn (now (c .before .before .before .before .before .before .before .before .before .args .words)) (l .drivers)) (l .queue)))
+    let z = c .before .before .before .before .before in
+    let s = stateIn (now (z .before .before .before .before .args .words)) (z .loop .drivers) in
+    (search needs, omega (arith, c .before .before .need-at .ensures .0, due-two s (z .loop .queue)))
 
 returns : tie.Need-returns Inv-loop μ-loop
 unfolding remaining
 returns c =
-    let a = c .before .before .before .before .before .before .before .before .before .before .args in
+    let z = c .before .before .before .before .before .before in
+    let a = z .before .before .before .before .args in
     let ws = now (a .words) in
     let rs = now (a .drivers) in
-    let most = c .before .before .before .before .before .before .before .if1 .most in
-    let l = c .before .before .before .before .before .before .loop in
+    let most = z .before .if1 .most in
+    let l = z .loop in
     let short : l .left < dueAt (stateIn ws (l .drivers)) (l .queue) = omega (arith, c .before .before .before .need-at .ensures .0) in
-    let fewer : most < remaining (stateIn ws rs) =
-    made-fewer (l .inv .1) (omega arith) short in
-    swept-by ws rs _ (a .budget) most _ (omega (arith, c .before .before .before .before .before .before .before .before .hold-drivers .ensures .long)) (l .inv .0)
-    (c .settle .ensures ∙ sym (sweep-stops (l .inv .1) (omega arith) short))
-    (omega arith) (sym (lt-ltb most (remaining (stateIn ws rs)) fewer))
+    let fewer : most < remaining (stateIn ws rs) = made-fewer (l .inv .1) (omega arith) short in
+    swept-by ws rs _ (a .budget) most _ (omega (arith, z .before .before .hold-drivers .ensures .long)) (l .inv .0)
+    (c .settle .ensures ∙ sym (sweep-stops (l .inv .1) (omega arith) short)) (omega arith) (sym (lt-ltb most (remaining (stateIn ws rs)) fewer))
 
 loop-again : tie.Need-loop-again Inv-loop μ-loop
 loop-again c =
-    let ws = now (c .before .before .before .before .before .before .before .before .before .before .before .args .words) in
-    let rs = now (c .before .before .before .before .before .before .before .before .before .before .before .args .drivers) in
-    let most = c .before .before .before .before .before .before .before .before .if1 .most in
-    let l = c .before .before .before .before .before .before .before .loop in
+    let z = c .before .before .before .before .before .before .before in
+    let ws = now (z .before .before .before .before .args .words) in
+    let rs = now (z .before .before .before .before .args .drivers) in
+    let most = z .before .if1 .most in
+    let l = z .loop in
     let need = c .before .before .before .before .need-at in
     let m = need .result .due in
-    let t = need .result .target in
-    let long : l .queue < length (l .drivers) =
-    omega (arith, as-long (l .inv .1), c .before .before .before .before .before .before .before .before .before .hold-drivers .ensures .long) in (
+    let long : l .queue < length (l .drivers) = omega (arith, as-long (l .inv .1), z .before .before .hold-drivers .ensures .long) in (
       l .inv .0,
-      subst (λ (qs : List ℕ). Underway ws rs queues most (l .queue + 1) (l .left - m) qs) (sym (c .before .finish .ensures ∙ finished ws (l .drivers) (l .queue) m t long (need .ensures .0) (need .ensures .1)))
+      subst (Underway ws rs queues most (l .queue + 1) (l .left - m))
+          (sym (c .before .finish .ensures ∙ finished ws (l .drivers) (l .queue) m (need .result .target) long (need .ensures .0) (need .ensures .1)))
           (sweep-goes-on (l .inv .1) (omega arith) m (need .ensures .0) (omega arith)),
     )
 
@@ -71,14 +70,15 @@ sub-made c = omega (arith, c .before .before .before .loop .inv .1 .made)
 returns-2 : tie.Need-returns-2 Inv-loop μ-loop
 unfolding remaining
 returns-2 c =
-    let a = c .before .before .before .before .before .before .before .args in
+    let z = c .before .before .before in
+    let a = z .before .before .before .before .args in
     let ws = now (a .words) in
     let rs = now (a .drivers) in
-    let most = c .before .before .before .before .if1 .most in
-    let l = c .before .before .before .loop in
+    let most = z .before .if1 .most in
+    let l = z .loop in
     let done = sweep-ends (l .inv .1) (omega arith) in
     let enough : most ≡ l .left + remaining (stateIn ws rs) = done .1 in
-    swept-by ws rs _ (a .budget) most _ (omega (arith, c .before .before .before .before .before .hold-drivers .ensures .long)) (l .inv .0)
+    swept-by ws rs _ (a .budget) most _ (omega (arith, z .before .before .hold-drivers .ensures .long)) (l .inv .0)
     (done .0) (omega arith) (sym (le-ltb most (remaining (stateIn ws rs)) (omega arith)))
 
 pub sweep-spec : {M : Type 1} → statement M
