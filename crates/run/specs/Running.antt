@@ -1,35 +1,85 @@
--- What carrying out a list of steps does: demand 3 as the contract of running code.
+-- What carrying out a list of requests does: demand 3 as the contract of running code.
 -- Assumes nothing.
-use Prim.Native.Nat.{ℕ}
+use Prim.Native.Nat.{ℕ, min}
+use mathlib.Core.Bool.{cond}
 use mathlib.Core.List.{List, [], _∷_, _++_}
 use mathlib.Core.Path.{_≡_}
 use lib.ListN.{length, drop}
-use Rattle.rules.specs.State.{Limits, State, fresh}
-use Rattle.rules.specs.Queues.{moveAnswer, movedNumber}
+use lib.Dec.{eqb}
+use denote.Ref.{now}
+use Rattle.rules.specs.State.{Limits, State, queues, fresh}
+use Rattle.rules.specs.Queues.{movedNumber, moveAnswer, remaining, mostMoves}
 use Rattle.rules.specs.Commands.{errnoOf}
-use Rattle.record.specs.Layout.{stateIn}
-use Rattle.model.specs.Steps.{Step, command, move, queueOf, rule, after, afterAll}
-use Rattle.model.specs.Demand3.{Demand3}
-use Rattle.encoding.specs.Encoding.{decode}
+use Rattle.mask.specs.declared.Apid.{Apid}
+use Rattle.mask.specs.declared.Apqi.{Apqi}
+use Rattle.record.specs.Lent.{Lent}
+use Rattle.record.specs.Carried.{Memory, memory, read, memoryAfter}
+use Rattle.setup.specs.Fresh.{freshMemory}
+use Rattle.bind.specs.Moves.{moveBytes, sweepBytes}
+use Rattle.model.specs.Steps.{Step, queueOf, rule, afterAll, answers}
+use Rattle.model.specs.Steps as Steps
+use Rattle.model.specs.Sweeps.{sweepSteps}
+use Rattle.calls.specs.Calls.{effect, Call, Chain, Demanded}
+use Rattle.encoding.specs.Encoding.{Request, command, move, sweep, requestOf, decode}
 
--- a step's answer as a byte: a command's errno value, 0 where there is no refusal, or a move's answer
-unfoldable pub answerByte : Step → State → ℕ
+-- the steps that a request stands for in a list of demand 3: a sweep stands in it as its moves
+unfoldable pub stepsFor : Request → State → List Step
+stepsFor (command c) s = Steps.command c ∷ []
+stepsFor (move a d) s = Steps.move a d ∷ []
+stepsFor (sweep b) s = sweepSteps b s
+
+-- the steps of some requests, one after the other
+unfoldable pub stepsOf : List Request → State → List Step
+stepsOf [] s = []
+stepsOf (x ∷ xs) s = stepsFor x s ++ stepsOf xs (afterAll (stepsFor x s) s)
+
+-- the memory after a request, every byte
+unfoldable pub leaves : Request → Memory → Memory
+leaves (command c) m = memoryAfter m (rule c (read m)) (effect c m)
+leaves (move a d) m = memory (m .words) (moveBytes (m .words) (queueOf a d) (m .drivers))
+leaves (sweep b) m = memory (m .words) (sweepBytes (m .words) queues 0 (min b mostMoves) (m .drivers))
+
+-- the memory after some requests
+unfoldable pub leavesAll : List Request → Memory → Memory
+leavesAll [] m = m
+leavesAll (x ∷ xs) m = leavesAll xs (leaves x m)
+
+-- a request's answer as a byte: a command's errno value, 0 where there is no refusal; a move's answer; whether moves remain after a sweep
+unfoldable pub answerByte : Request → State → ℕ
 answerByte (command c) s = errnoOf (rule c s)
 answerByte (move a d) s = movedNumber (moveAnswer (queueOf a d) s)
+answerByte (sweep b) s = cond (eqb (remaining (afterAll (sweepSteps b s) s)) 0) 0 1
 
--- the answers to a list's steps
-unfoldable pub answerBytes : List Step → State → List ℕ
+-- the answers to some requests
+unfoldable pub answerBytes : List Request → State → List ℕ
 answerBytes [] s = []
-answerBytes (x ∷ xs) s = answerByte x s ∷ answerBytes xs (after x s)
+answerBytes (x ∷ xs) s = answerByte x s ∷ answerBytes xs (afterAll (stepsFor x s) s)
 
--- A run of the steps in `bytes` on a fresh record of limits l, with room for answers in `before`. It leaves the answers in
--- `after`, and the record as the words ws and the driver bytes qs. As many steps are carried out as there is room for answers.
-pub record Run (l : Limits) (bytes before after ws qs : List ℕ) (r : ℕ) : Type 0 where
-  -- the number of steps that were carried out
+-- one request, on the memory m, which it leaves as n
+pub record Stepped (x : Request) (m n : Memory) (r : ℕ) : Type 0 where
+  pub answer : r ≡ answerByte x (read m)
+  pub memory : n ≡ leaves x m
+  pub call : (rs : List ℕ) × Call m n (stepsFor x (read m)) rs
+
+-- A run of the requests in `bytes` on a fresh record of limits l, with room for answers in `before`. It leaves the answers in
+-- `after` and the record in the memory m. As many requests are carried out as there is room for answers.
+pub record Run (l : Limits) (bytes before after : List ℕ) (m : Memory) (r : ℕ) : Type 0 where
+  -- the number of requests that were carried out
   pub number : r ≡ length (decode (length before) bytes)
   -- the answers, in order; the rest of the buffer is as it was
   pub answers : after ≡ answerBytes (decode (length before) bytes) (fresh l) ++ drop r before
-  -- the record that was left, read by the rules, is what the rules make of the list
-  pub read : stateIn ws qs ≡ afterAll (decode (length before) bytes) (fresh l)
-  -- demand 3 holds of it
-  pub demand : Demand3 l (decode (length before) bytes) (stateIn ws qs)
+  -- the memory, every byte
+  pub memory : m ≡ leavesAll (decode (length before) bytes) (freshMemory (l .adapter) (l .domain))
+  -- it was left by a chain of calls from a fresh record
+  pub chain : Chain l m (stepsOf (decode (length before) bytes) (fresh l)) (Steps.answers (stepsOf (decode (length before) bytes) (fresh l)) (fresh l))
+  -- so demand 3 holds of it
+  pub demand : Demanded l m (stepsOf (decode (length before) bytes) (fresh l)) (Steps.answers (stepsOf (decode (length before) bytes) (fresh l)) (fresh l))
+
+-- the same of lent memory at entry and at exit
+abbrev pub StepsOnce : Lent → Lent → Lent → Lent → Lent → ℕ → Type 0
+StepsOnce bytes words words′ drivers drivers′ r =
+    Stepped (requestOf (now bytes)) (memory (now words) (now drivers)) (memory (now words′) (now drivers′)) r
+
+abbrev pub Runs : Apid → Apqi → Lent → Lent → Lent → Lent → Lent → ℕ → Type 0
+Runs a d steps before after words′ drivers′ r =
+    Run (record { adapter = a .0; domain = d .0 }) (now steps) (now before) (now after) (memory (now words′) (now drivers′)) r

@@ -1,31 +1,29 @@
-// Carries out a list of commands and moves, with demand 3 as its contract.
+// Carries out a list of commands, moves and sweeps, with demand 3 as its contract.
 //
 // Rests on everything below: it calls the functions that a caller would.
 use mask::Apid;
 use mask::Apqi;
 use record::Drivers;
 use record::Words;
-ghost use mathlib.Core.Path.{_≡_};
 ghost use Prim.Native.Nat.{_≤_};
 ghost use lib.ListN.{length};
-ghost use Rattle.record.specs.Layout.{stateIn};
-ghost use Rattle.model.specs.Steps.{move, after};
-ghost use Rattle.encoding.specs.Encoding.{stepOf};
-ghost use Rattle.run.specs.Running.{Run, answerByte};
+ghost use Rattle.record.specs.Carried.{memory};
+ghost use Rattle.encoding.specs.Encoding.{move, sweep};
+ghost use Rattle.run.specs.Running.{Stepped, StepsOnce, Runs};
 
-// Makes the lent memory a fresh record, carries out the steps, and writes a byte of answer for each. It answers how many
-// steps it carried out: those for which there is room for an answer.
+// Makes the lent memory a fresh record, carries out the requests, and writes a byte of answer for each. It answers how many
+// it carried out: those for which there is room for an answer.
 pub fn run(
     words: &mut Words,
     drivers: &mut Drivers,
-    adapter: u8,
-    domain: u8,
+    adapter: Apid,
+    domain: Apqi,
     steps: &[u8],
     answers: &mut [u8],
 ) -> usize
-    ensures { λ r. ⌜ Run (record { adapter = adapter; domain = domain }) (now (steps .entry)) (now (answers .entry)) (now (answers .exit)) (now (words .exit)) (now (drivers .exit)) r ⌝ }
+    ensures { λ r. ⌜ Runs adapter domain (steps .entry) (answers .entry) (answers .exit) (words .exit) (drivers .exit) r ⌝ }
 {
-    setup::fresh(words, drivers, adapter as u64, domain as u64);
+    setup::fresh(words, drivers, adapter.0 as u64, domain.0 as u64);
     let mut at = 0usize;
     let mut n = 0usize;
     while n < answers.len() {
@@ -40,46 +38,43 @@ pub fn run(
     n
 }
 
-// Carries out one step, and gives its answer as a byte.
+// Carries out one request, and gives its answer as a byte.
 fn step(words: &mut Words, drivers: &mut Drivers, bytes: &[u8]) -> u8
     requires { ⌜ 20 ≤ length (now bytes) ⌝ }
-    ensures answer { λ r. ⌜ r ≡ answerByte (stepOf (now (bytes .entry))) (stateIn (now (words .entry)) (now (drivers .entry))) ⌝ }
-    ensures state { λ r. ⌜ stateIn (now (words .exit)) (now (drivers .exit)) ≡ after (stepOf (now (bytes .entry))) (stateIn (now (words .entry)) (now (drivers .entry))) ⌝ }
+    ensures { λ r. ⌜ StepsOnce (bytes .entry) (words .entry) (words .exit) (drivers .entry) (drivers .exit) r ⌝ }
 {
+    let id = fields::id_of(&bytes[2..]);
+    let kind = fields::kind_of(bytes[1]);
+    let text = &bytes[20..];
     let op = bytes[0];
     match op {
-        0 => rules::answer_number(devices::create(words, encoding::id_of(bytes))),
-        1 => rules::answer_number(devices::remove(words, encoding::id_of(bytes))),
-        2 => rules::answer_number(devices::open(words, encoding::id_of(bytes))),
-        3 => rules::answer_number(devices::close(words, encoding::id_of(bytes))),
-        4 => rules::answer_number(assign::assign(
-            words,
-            encoding::kind_of(bytes[1]),
-            encoding::id_of(bytes),
-            &bytes[20..],
-        )),
-        5 => rules::answer_number(assign::unassign(
-            words,
-            encoding::kind_of(bytes[1]),
-            encoding::id_of(bytes),
-            &bytes[20..],
-        )),
-        6 => rules::answer_number(host::set_apmask(words, &bytes[20..])),
-        7 => rules::answer_number(host::set_aqmask(words, &bytes[20..])),
-        8 => rules::answer_number(host::configure(
-            words,
-            drivers,
-            encoding::configuration_of(&bytes[20..]),
-        )),
-        _ => make_move(words, drivers, bytes[2], bytes[3]),
+        0 => rules::answer_number(devices::create(words, id)),
+        1 => rules::answer_number(devices::remove(words, id)),
+        2 => rules::answer_number(devices::open(words, id)),
+        3 => rules::answer_number(devices::close(words, id)),
+        4 => rules::answer_number(assign::assign(words, kind, id, text)),
+        5 => rules::answer_number(assign::unassign(words, kind, id, text)),
+        6 => rules::answer_number(host::set_apmask(words, text)),
+        7 => rules::answer_number(host::set_aqmask(words, text)),
+        8 => rules::answer_number(host::configure(words, drivers, fields::configuration_of(text))),
+        10 => make_sweep(words, drivers, fields::number_of(&bytes[2..])),
+        _ => make_move(words, drivers, Apid(bytes[2]), Apqi(bytes[3])),
     }
 }
 
 // Makes a move, and gives its answer as a byte.
-fn make_move(words: &Words, drivers: &mut Drivers, adapter: u8, domain: u8) -> u8
-    ensures answer { λ r. ⌜ r ≡ answerByte (move adapter domain) (stateIn (now (words .entry)) (now (drivers .entry))) ⌝ }
-    ensures state { λ r. ⌜ stateIn (now (words .entry)) (now (drivers .exit)) ≡ after (move adapter domain) (stateIn (now (words .entry)) (now (drivers .entry))) ⌝ }
+fn make_move(words: &Words, drivers: &mut Drivers, adapter: Apid, domain: Apqi) -> u8
+    ensures { λ r. ⌜ Stepped (move (adapter .0) (domain .0)) (memory (now (words .entry)) (now (drivers .entry)))
+        (memory (now (words .entry)) (now (drivers .exit))) r ⌝ }
 {
-    record::hold_drivers(drivers);
-    rules::moved_number(bind::move_queue(words, drivers, Apid(adapter), Apqi(domain)))
+    rules::moved_number(bind::move_queue(words, drivers, adapter, domain))
+}
+
+// Makes a sweep, and tells by a byte whether moves remain.
+fn make_sweep(words: &Words, drivers: &mut Drivers, budget: u32) -> u8
+    ensures { λ r. ⌜ Stepped (sweep budget) (memory (now (words .entry)) (now (drivers .entry)))
+        (memory (now (words .entry)) (now (drivers .exit))) r ⌝ }
+{
+    let swept = bind::sweep(words, drivers, budget);
+    if swept.more { 1 } else { 0 }
 }

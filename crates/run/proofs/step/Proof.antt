@@ -1,296 +1,257 @@
--- `step` meets its contract: each operation is carried out by its function.
--- Assumes nothing.
-use Prim.Native.Nat.{_-_}
-use lib.ListN.{length, take, drop}
-use denote.Ref.{now}
-use Rattle.rules.specs.Commands.{answered}
-use Rattle.record.specs.Layout.{stateIn}
-use Rattle.model.specs.Steps.{create, remove, openIt, closeIt, assign, unassign, setApmask, setAqmask, configure, rule}
-use Rattle.encoding.specs.Encoding.{stepOf}
-use Rattle.run.proofs.Laws.{obeyed, is-move, payload}
 use borrow.Author.Needs.{needs}
 use Rattle.run.proofs.step.Statement.{statement}
 use Rattle.run.proofs.step.Tie as tie
+use Rattle.run.proofs.step.Reads as reads
+use Rattle.run.proofs.step.Lts as lts
+use Rattle.assign.proofs.assign.Reads as assign-reads
+use Rattle.assign.proofs.unassign.Reads as unassign-reads
+use Rattle.devices.proofs.close.Reads as close-reads
+use Rattle.devices.proofs.create.Reads as create-reads
+use Rattle.devices.proofs.open.Reads as open-reads
+use Rattle.devices.proofs.remove.Reads as remove-reads
+use Rattle.fields.proofs.configuration_of.Reads as configuration-of-reads
+use Rattle.fields.proofs.id_of.Reads as id-of-reads
+use Rattle.fields.proofs.kind_of.Reads as kind-of-reads
+use Rattle.fields.proofs.number_of.Reads as number-of-reads
+use Rattle.host.proofs.configure.Reads as configure-reads
+use Rattle.host.proofs.set_apmask.Reads as set-apmask-reads
+use Rattle.host.proofs.set_aqmask.Reads as set-aqmask-reads
+use Rattle.rules.proofs.answer_number.Reads as answer-number-reads
+use Rattle.run.proofs.make_move.Reads as make-move-reads
+use Rattle.run.proofs.make_sweep.Reads as make-sweep-reads
 
-shared-slice-read-op : tie.Need-shared-slice-read-op
-shared-slice-read-op c = search needs
+-- src/lib.rt:46:28
+sub-id-of : tie.Need-sub-id-of
+sub-id-of c = search needs
 
+-- src/lib.rt:46:28
+part-id-of-start : tie.Need-part-id-of-start
+part-id-of-start c = search needs
+
+-- src/lib.rt:46:28
+part-id-of-end : tie.Need-part-id-of-end
+part-id-of-end c = search needs
+
+-- src/lib.rt:46:9
 id-of-requires : tie.Need-id-of-requires
 id-of-requires c κs = search needs
 
-create-requires : tie.Need-create-requires
-create-requires c κs = search needs
-
-answer-number-requires : tie.Need-answer-number-requires
-answer-number-requires c κs = search needs
-
-id-of-requires-2 : tie.Need-id-of-requires-2
-id-of-requires-2 c κs = search needs
-
-remove-requires : tie.Need-remove-requires
-remove-requires c κs = search needs
-
-answer-number-requires-2 : tie.Need-answer-number-requires-2
-answer-number-requires-2 c κs = search needs
-
-id-of-requires-3 : tie.Need-id-of-requires-3
-id-of-requires-3 c κs = search needs
-
-open-requires : tie.Need-open-requires
-open-requires c κs = search needs
-
-answer-number-requires-3 : tie.Need-answer-number-requires-3
-answer-number-requires-3 c κs = search needs
-
-id-of-requires-4 : tie.Need-id-of-requires-4
-id-of-requires-4 c κs = search needs
-
-close-requires : tie.Need-close-requires
-close-requires c κs = search needs
-
-answer-number-requires-4 : tie.Need-answer-number-requires-4
-answer-number-requires-4 c κs = search needs
-
+-- src/lib.rt:47:32
 shared-slice-read-kind-of : tie.Need-shared-slice-read-kind-of
 shared-slice-read-kind-of c = search needs
 
+-- src/lib.rt:47:9
 kind-of-requires : tie.Need-kind-of-requires
 kind-of-requires c κs = search needs
 
-id-of-requires-5 : tie.Need-id-of-requires-5
-id-of-requires-5 c κs = search needs
+-- src/lib.rt:48:16
+sub-text : tie.Need-sub-text
+sub-text c = search needs
 
-sub-assign : tie.Need-sub-assign
-sub-assign c = search needs
+-- src/lib.rt:48:16
+part-text-start : tie.Need-part-text-start
+part-text-start c = search needs
 
-part-assign-start : tie.Need-part-assign-start
-part-assign-start c = search needs
+-- src/lib.rt:48:16
+part-text-end : tie.Need-part-text-end
+part-text-end c = search needs
 
-part-assign-end : tie.Need-part-assign-end
-part-assign-end c = search needs
+-- src/lib.rt:49:14
+shared-slice-read-op : tie.Need-shared-slice-read-op
+shared-slice-read-op c = search needs
 
+-- src/lib.rt:51:35
+create-requires : tie.Need-create-requires
+create-requires c κs = search needs
+
+-- src/lib.rt:51:14
+answer-number-requires : tie.Need-answer-number-requires
+answer-number-requires c κs = search needs
+
+-- src/lib.rt:52:35
+remove-requires : tie.Need-remove-requires
+remove-requires c κs = search needs
+
+-- src/lib.rt:52:14
+answer-number-requires-2 : tie.Need-answer-number-requires-2
+answer-number-requires-2 c κs = search needs
+
+-- src/lib.rt:53:35
+open-requires : tie.Need-open-requires
+open-requires c κs = search needs
+
+-- src/lib.rt:53:14
+answer-number-requires-3 : tie.Need-answer-number-requires-3
+answer-number-requires-3 c κs = search needs
+
+-- src/lib.rt:54:35
+close-requires : tie.Need-close-requires
+close-requires c κs = search needs
+
+-- src/lib.rt:54:14
+answer-number-requires-4 : tie.Need-answer-number-requires-4
+answer-number-requires-4 c κs = search needs
+
+-- src/lib.rt:55:35
 assign-requires : tie.Need-assign-requires
 assign-requires c κs = search needs
 
+-- src/lib.rt:55:14
 answer-number-requires-5 : tie.Need-answer-number-requires-5
 answer-number-requires-5 c κs = search needs
 
-shared-slice-read-kind-of-2 : tie.Need-shared-slice-read-kind-of-2
-shared-slice-read-kind-of-2 c = search needs
-
-kind-of-requires-2 : tie.Need-kind-of-requires-2
-kind-of-requires-2 c κs = search needs
-
-id-of-requires-6 : tie.Need-id-of-requires-6
-id-of-requires-6 c κs = search needs
-
-sub-unassign : tie.Need-sub-unassign
-sub-unassign c = search needs
-
-part-unassign-start : tie.Need-part-unassign-start
-part-unassign-start c = search needs
-
-part-unassign-end : tie.Need-part-unassign-end
-part-unassign-end c = search needs
-
+-- src/lib.rt:56:35
 unassign-requires : tie.Need-unassign-requires
 unassign-requires c κs = search needs
 
+-- src/lib.rt:56:14
 answer-number-requires-6 : tie.Need-answer-number-requires-6
 answer-number-requires-6 c κs = search needs
 
-sub-set-apmask : tie.Need-sub-set-apmask
-sub-set-apmask c = search needs
-
-part-set-apmask-start : tie.Need-part-set-apmask-start
-part-set-apmask-start c = search needs
-
-part-set-apmask-end : tie.Need-part-set-apmask-end
-part-set-apmask-end c = search needs
-
+-- src/lib.rt:57:35
 set-apmask-requires : tie.Need-set-apmask-requires
 set-apmask-requires c κs = search needs
 
+-- src/lib.rt:57:14
 answer-number-requires-7 : tie.Need-answer-number-requires-7
 answer-number-requires-7 c κs = search needs
 
-sub-set-aqmask : tie.Need-sub-set-aqmask
-sub-set-aqmask c = search needs
-
-part-set-aqmask-start : tie.Need-part-set-aqmask-start
-part-set-aqmask-start c = search needs
-
-part-set-aqmask-end : tie.Need-part-set-aqmask-end
-part-set-aqmask-end c = search needs
-
+-- src/lib.rt:58:35
 set-aqmask-requires : tie.Need-set-aqmask-requires
 set-aqmask-requires c κs = search needs
 
+-- src/lib.rt:58:14
 answer-number-requires-8 : tie.Need-answer-number-requires-8
 answer-number-requires-8 c κs = search needs
 
-sub-configuration-of : tie.Need-sub-configuration-of
-sub-configuration-of c = search needs
-
-part-configuration-of-start : tie.Need-part-configuration-of-start
-part-configuration-of-start c = search needs
-
-part-configuration-of-end : tie.Need-part-configuration-of-end
-part-configuration-of-end c = search needs
-
+-- src/lib.rt:59:67
 configuration-of-requires : tie.Need-configuration-of-requires
 configuration-of-requires c κs = search needs
 
+-- src/lib.rt:59:35
 configure-requires : tie.Need-configure-requires
 configure-requires c κs = search needs
 
+-- src/lib.rt:59:14
 answer-number-requires-9 : tie.Need-answer-number-requires-9
 answer-number-requires-9 c κs = search needs
 
-shared-slice-read-make-move : tie.Need-shared-slice-read-make-move
-shared-slice-read-make-move c = search needs
+-- src/lib.rt:60:60
+sub-number-of : tie.Need-sub-number-of
+sub-number-of c = search needs
 
-shared-slice-read-make-move-2 : tie.Need-shared-slice-read-make-move-2
-shared-slice-read-make-move-2 c = search needs
+-- src/lib.rt:60:60
+part-number-of-start : tie.Need-part-number-of-start
+part-number-of-start c = search needs
 
+-- src/lib.rt:60:60
+part-number-of-end : tie.Need-part-number-of-end
+part-number-of-end c = search needs
+
+-- src/lib.rt:60:42
+number-of-requires : tie.Need-number-of-requires
+number-of-requires c κs = search needs
+
+-- src/lib.rt:60:15
+make-sweep-requires : tie.Need-make-sweep-requires
+make-sweep-requires c κs = search needs
+
+-- src/lib.rt:61:45
+shared-slice-read-t48 : tie.Need-shared-slice-read-t48
+shared-slice-read-t48 c = search needs
+
+-- src/lib.rt:61:61
+shared-slice-read-t51 : tie.Need-shared-slice-read-t51
+shared-slice-read-t51 c = search needs
+
+-- src/lib.rt:61:14
 make-move-requires : tie.Need-make-move-requires
 make-move-requires c κs = search needs
 
+-- src/lib.rt:42:1
 returns : tie.Need-returns
-unfolding stepOf rule
-returns c =
-    let a = c .before .before .before .before .before .before .before .args in
-    let i = c .before .before .id-of .result in
-    obeyed (now (a .bytes)) (create i) (stateIn (now (a .words)) (now (a .drivers))) _ (c .answer-number .result) (answered (c .before .create .result))
-    (rw (c .before .before .before .before .match .keys1, c .before .before .id-of .ensures)) (c .answer-number .ensures)
-    (c .before .create .ensures .answer (now (a .drivers))) (c .before .create .ensures .state (now (a .drivers)))
+returns c = search needs
 
+-- src/lib.rt:42:1
 returns-2 : tie.Need-returns-2
-unfolding stepOf rule
-returns-2 c =
-    let a = c .before .before .before .before .before .before .before .args in
-    let i = c .before .before .id-of2 .result in
-    obeyed (now (a .bytes)) (remove i) (stateIn (now (a .words)) (now (a .drivers))) _ (c .answer-number2 .result) (answered (c .before .remove .result))
-    (rw (c .before .before .before .before .match .keys2, c .before .before .id-of2 .ensures)) (c .answer-number2 .ensures)
-    (c .before .remove .ensures .answer (now (a .drivers))) (c .before .remove .ensures .state (now (a .drivers)))
+returns-2 c = search needs
 
+-- src/lib.rt:42:1
 returns-3 : tie.Need-returns-3
-unfolding stepOf rule
-returns-3 c =
-    let a = c .before .before .before .before .before .before .before .args in
-    let i = c .before .before .id-of3 .result in
-    obeyed (now (a .bytes)) (openIt i) (stateIn (now (a .words)) (now (a .drivers))) _ (c .answer-number3 .result) (answered (c .before .«open» .result))
-    (rw (c .before .before .before .before .match .keys3, c .before .before .id-of3 .ensures)) (c .answer-number3 .ensures)
-    (c .before .«open» .ensures .answer (now (a .drivers))) (c .before .«open» .ensures .state (now (a .drivers)))
+returns-3 c = search needs
 
+-- src/lib.rt:42:1
 returns-4 : tie.Need-returns-4
-unfolding stepOf rule
-returns-4 c =
-    let a = c .before .before .before .before .before .before .before .args in
-    let i = c .before .before .id-of4 .result in
-    obeyed (now (a .bytes)) (closeIt i) (stateIn (now (a .words)) (now (a .drivers))) _ (c .answer-number4 .result) (answered (c .before .close .result))
-    (rw (c .before .before .before .before .match .keys4, c .before .before .id-of4 .ensures)) (c .answer-number4 .ensures)
-    (c .before .close .ensures .answer (now (a .drivers))) (c .before .close .ensures .state (now (a .drivers)))
+returns-4 c = search needs
 
+-- src/lib.rt:42:1
 returns-5 : tie.Need-returns-5
-unfolding stepOf rule
-returns-5 c =
-    let a = c .before .before .before .before .before .before .before .before .before .before .args in
-    obeyed (now (a .bytes)) (assign (c .before .before .before .before .kind-of .result) (c .before .before .before .id-of5 .result) (take (length (now (a .bytes)) - 20) (drop 20 (now (a .bytes)))))
-    (stateIn (now (a .words)) (now (a .drivers))) _ (c .answer-number5 .result) (answered (c .before .assign .result))
-    (rw (c .before .before .before .before .before .before .before .match .keys5, c .before .before .before .before .kind-of .ensures, c .before .before .before .id-of5 .ensures, payload (now (a .bytes)))) (c .answer-number5 .ensures)
-    (c .before .assign .ensures .answer (now (a .drivers))) (c .before .assign .ensures .state (now (a .drivers)))
+returns-5 c = search needs
 
+-- src/lib.rt:42:1
 returns-6 : tie.Need-returns-6
-unfolding stepOf rule
-returns-6 c =
-    let a = c .before .before .before .before .before .before .before .before .before .before .args in
-    obeyed (now (a .bytes)) (unassign (c .before .before .before .before .kind-of2 .result) (c .before .before .before .id-of6 .result) (take (length (now (a .bytes)) - 20) (drop 20 (now (a .bytes)))))
-    (stateIn (now (a .words)) (now (a .drivers))) _ (c .answer-number6 .result) (answered (c .before .unassign .result))
-    (rw (c .before .before .before .before .before .before .before .match .keys6, c .before .before .before .before .kind-of2 .ensures, c .before .before .before .id-of6 .ensures, payload (now (a .bytes)))) (c .answer-number6 .ensures)
-    (c .before .unassign .ensures .answer (now (a .drivers))) (c .before .unassign .ensures .state (now (a .drivers)))
+returns-6 c = search needs
 
+-- src/lib.rt:42:1
 returns-7 : tie.Need-returns-7
-unfolding stepOf rule
-returns-7 c =
-    let a = c .before .before .before .before .before .before .before .args in
-    obeyed (now (a .bytes)) (setApmask (take (length (now (a .bytes)) - 20) (drop 20 (now (a .bytes))))) (stateIn (now (a .words)) (now (a .drivers))) _ (c .answer-number7 .result) (answered (c .before .set-apmask .result))
-    (rw (c .before .before .before .before .match .keys7, payload (now (a .bytes)))) (c .answer-number7 .ensures)
-    (c .before .set-apmask .ensures .answer (now (a .drivers))) (c .before .set-apmask .ensures .state (now (a .drivers)))
+returns-7 c = search needs
 
+-- src/lib.rt:42:1
 returns-8 : tie.Need-returns-8
-unfolding stepOf rule
-returns-8 c =
-    let a = c .before .before .before .before .before .before .before .args in
-    obeyed (now (a .bytes)) (setAqmask (take (length (now (a .bytes)) - 20) (drop 20 (now (a .bytes))))) (stateIn (now (a .words)) (now (a .drivers))) _ (c .answer-number8 .result) (answered (c .before .set-aqmask .result))
-    (rw (c .before .before .before .before .match .keys8, payload (now (a .bytes)))) (c .answer-number8 .ensures)
-    (c .before .set-aqmask .ensures .answer (now (a .drivers))) (c .before .set-aqmask .ensures .state (now (a .drivers)))
+returns-8 c = search needs
 
+-- src/lib.rt:42:1
 returns-9 : tie.Need-returns-9
-unfolding stepOf rule
-returns-9 c =
-    let a = c .before .before .before .before .before .before .before .before .before .args in
-    obeyed (now (a .bytes)) (configure (c .before .before .configuration-of .result)) (stateIn (now (a .words)) (now (a .drivers))) _ (c .answer-number9 .result) (answered (c .before .configure .result))
-    (rw (c .before .before .before .before .before .before .match .keys9, c .before .before .configuration-of .ensures, payload (now (a .bytes)))) (c .answer-number9 .ensures)
-    (c .before .configure .ensures .answer) (c .before .configure .ensures .state)
+returns-9 c = search needs
 
+-- src/lib.rt:42:1
 returns-10 : tie.Need-returns-10
-returns-10 c =
-    let n = c .before .before .before .before .before .match .rest in
-    let b = now (c .before .before .before .before .before .before .before .before .args .bytes) in
-    rw (is-move b (n .0 .0 .0 .0 .0 .0 .0 .0 .1) (n .0 .0 .0 .0 .0 .0 .0 .1) (n .0 .0 .0 .0 .0 .0 .1) (n .0 .0 .0 .0 .0 .1) (n .0 .0 .0 .0 .1) (n .0 .0 .0 .1) (n .0 .0 .1) (n .0 .1) (n .1)) (c .make-move .ensures)
+returns-10 c = search needs
+
+-- src/lib.rt:42:1
+returns-11 : tie.Need-returns-11
+returns-11 c = search needs
 
 pub step-spec : {M : Type 1} → statement M
 step-spec =
     tie.close
     (tie.spec
-    shared-slice-read-op
+    sub-id-of
+    part-id-of-start
+    part-id-of-end
     id-of-requires
-    create-requires
-    answer-number-requires
-    id-of-requires-2
-    remove-requires
-    answer-number-requires-2
-    id-of-requires-3
-    open-requires
-    answer-number-requires-3
-    id-of-requires-4
-    close-requires
-    answer-number-requires-4
     shared-slice-read-kind-of
     kind-of-requires
-    id-of-requires-5
-    sub-assign
-    part-assign-start
-    part-assign-end
+    sub-text
+    part-text-start
+    part-text-end
+    shared-slice-read-op
+    create-requires
+    answer-number-requires
+    remove-requires
+    answer-number-requires-2
+    open-requires
+    answer-number-requires-3
+    close-requires
+    answer-number-requires-4
     assign-requires
     answer-number-requires-5
-    shared-slice-read-kind-of-2
-    kind-of-requires-2
-    id-of-requires-6
-    sub-unassign
-    part-unassign-start
-    part-unassign-end
     unassign-requires
     answer-number-requires-6
-    sub-set-apmask
-    part-set-apmask-start
-    part-set-apmask-end
     set-apmask-requires
     answer-number-requires-7
-    sub-set-aqmask
-    part-set-aqmask-start
-    part-set-aqmask-end
     set-aqmask-requires
     answer-number-requires-8
-    sub-configuration-of
-    part-configuration-of-start
-    part-configuration-of-end
     configuration-of-requires
     configure-requires
     answer-number-requires-9
-    shared-slice-read-make-move
-    shared-slice-read-make-move-2
+    sub-number-of
+    part-number-of-start
+    part-number-of-end
+    number-of-requires
+    make-sweep-requires
+    shared-slice-read-t48
+    shared-slice-read-t51
     make-move-requires
     returns
     returns-2
@@ -301,4 +262,5 @@ step-spec =
     returns-7
     returns-8
     returns-9
-    returns-10)
+    returns-10
+    returns-11)
