@@ -66,8 +66,8 @@ product-row a d x = count-cong 256 (λ i. inProduct a d (x * 256 + i)) (λ i. a 
 pub matrix-lines : (a d : Bits) → length (queuesAt 0 (inProduct a d)) ≡ countBelow 256 a * countBelow 256 d
 unfolding queuesAt
 matrix-lines a d =
-    length-queues 65536 0 (inProduct a d)
-    ∙ count-cong 65536 (λ i. inProduct a d (0 + i)) (inProduct a d) (λ i l. ap (inProduct a d) (zero-add i))
+    length-queues queues 0 (inProduct a d)
+    ∙ count-cong queues (λ i. inProduct a d (0 + i)) (inProduct a d) (λ i l. ap (inProduct a d) (zero-add i))
     ∙ rows 256 (countBelow 256 d) a (inProduct a d) (product-row a d) 256
 
 -- ---- lines
