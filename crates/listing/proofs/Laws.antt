@@ -11,8 +11,7 @@ use lib.ListN.{length, getD, set, take, drop, length-append, length-drop, List·
 use lib.Seq.{sets-eq, take-all, take-at, drop-at, drop-drop, getD-append-seam, append-snoc}
 use borrow.Author.Tests.{lt-ltb, le-ltb, le-leb, lt-leb}
 use Rattle.errno.specs.Errno.{numberOf}
-use Rattle.errno.specs.declared.Errno.{Errno}
-use Rattle.errno.specs.declared.Errno.the-variants.{Enoent, Ebusy, Eexist, Enodev, Einval, Enospc, Eaddrinuse, Eaddrnotavail}
+use Rattle.errno.specs.declared.Errno.the-variants.{Enoent, Enospc}
 use Rattle.mask.specs.Bits.{Bits, bits, countBelow}
 use Rattle.mask.proofs.Laws.{count-cong, count-add}
 use Rattle.rules.specs.declared.Id.{Id}
@@ -67,8 +66,8 @@ product-row a d x = count-cong 256 (λ i. inProduct a d (x * 256 + i)) (λ i. a 
 pub matrix-lines : (a d : Bits) → length (queuesAt 0 (inProduct a d)) ≡ countBelow 256 a * countBelow 256 d
 unfolding queuesAt
 matrix-lines a d =
-    length-queues 65536 0 (inProduct a d)
-    ∙ count-cong 65536 (λ i. inProduct a d (0 + i)) (inProduct a d) (λ i l. ap (inProduct a d) (zero-add i))
+    length-queues queues 0 (inProduct a d)
+    ∙ count-cong queues (λ i. inProduct a d (0 + i)) (inProduct a d) (λ i l. ap (inProduct a d) (zero-add i))
     ∙ rows 256 (countBelow 256 d) a (inProduct a d) (product-row a d) 256
 
 -- ---- lines
@@ -216,17 +215,6 @@ module _ {m : Bits} {place : ℕ} {b₀ b : List ℕ} {k at last : ℕ} (s : Sof
 
 -- ---- a whole call
 
-positive : (e : Errno) → numberOf e ≡ 0 → ⊥
-unfolding numberOf
-positive Enoent h = omega arith
-positive Ebusy h = omega arith
-positive Eexist h = omega arith
-positive Enodev h = omega arith
-positive Einval h = omega arith
-positive Enospc h = omega arith
-positive Eaddrinuse h = omega arith
-positive Eaddrnotavail h = omega arith
-
 module _ (ws qs : List ℕ) (i : Id) {p : ℕ} (at : p ≡ slotOf i (deviceIn ws)) where
   pub errno-absent : (n : ℕ) → slots ≤ p → listErrno (stateIn ws qs) i n ≡ numberOf Enoent
   unfolding listErrno stateIn
@@ -246,10 +234,10 @@ module _ (ws qs : List ℕ) (i : Id) {p : ℕ} (at : p ≡ slotOf i (deviceIn ws
   matrix-at h = rw (← at) (ap₂ inProduct (h .adapters) (h .domains))
 
 module _ {s : State} {i : Id} {w : Matrix} {place : ℕ} {before : List ℕ} (r : Listed) where
-  pub refused-listing : (e : Errno) → answered (r .answer) ≡ numberOf e → listErrno s i (length before) ≡ numberOf e → r .written ≡ 0 → r .next ≡ place
+  pub refused-listing : (n : ℕ) → 0 < n → answered (r .answer) ≡ n → listErrno s i (length before) ≡ n → r .written ≡ 0 → r .next ≡ place
       → Listing s i w place before before r
-  refused-listing e a l p q =
-      record { answer = a ∙ sym l; accepted = λ h. absurd (positive e (sym a ∙ h)); refused = λ h. record { text = refl; written = p; next = q } }
+  refused-listing n h a l p q =
+      record { answer = a ∙ sym l; accepted = λ e. absurd (omega (arith, a, e)); refused = λ e. record { text = refl; written = p; next = q } }
 
   pub written-listing : {after : List ℕ} {m : Bits} → answered (r .answer) ≡ 0 → listErrno s i (length before) ≡ 0 → m ≡ matrix s i w
       → Written m place before after r → Listing s i w place before after r

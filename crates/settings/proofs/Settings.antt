@@ -31,7 +31,7 @@ use Rattle.record.specs.Layout.{wordsOf}
 use Rattle.record.proofs.Laws.{words-bits}
 use Rattle.model.specs.Steps.{Step, move, queueOf, answers, afterAll}
 use Rattle.listing.specs.Lines.{setFrom}
-use Rattle.settings.specs.Table.{maskWith, setBits, shown, maskOrNone, readMask, idOf, wordsWith, limited, unreserved, twoDevices, oneUnbound, new, adapter, domain, apmask, aqmask, config, Every, table}
+use Rattle.settings.specs.Table.{maskWith, setBits, shown, maskOrNone, readMask, idOf, wordsWith, limited, unreserved, twoDevices, oneUnbound, new, adapter, domain, apmask, aqmask, config, adaptersIn, domainsIn, Settles, Every, table}
 use Rattle.settings.proofs.Quick.{pairedAdapters, pairedDomains, meetsHost, meetsElsewhere, quickAssignAt, quickSetHost, quickRule, quickAnswers, quickAfter, answers-quick, after-quick}
 
 -- ---- what is computed: texts and masks
@@ -75,10 +75,10 @@ lists : (quickAnswers twoDevices (limited 255) ≡ (0 ∷ 0 ∷ 0 ∷ 0 ∷ 0 �
 unfolding ascii digit bitAt noBits allBits included excluded both someBelow digitOf body startsHex digitsAfter digits anyBase atMost numberRule numberText allHex hexMask signed item andThen items before parts maskText fresh noDevice inProduct errnoOf numberOf stateAfter sameId firstFrom slotOf freeSlot withDevice withHost onDevice reading newDevice create numbersOf withNumbers limitOf single idOf pairedAdapters pairedDomains meetsHost meetsElsewhere quickAssignAt quickSetHost quickRule quickAnswers
 lists = (refl, refl, refl, refl, refl, refl)
 
-guest-lists : (setBits (guestAdapters (quickAfter oneUnbound (limited 255)) (quickAfter oneUnbound (limited 255) .device 0)) ≡ (5 ∷ []))
-    × (setBits (guestDomains (quickAfter oneUnbound (limited 255)) (quickAfter oneUnbound (limited 255) .device 0)) ≡ (4 ∷ 171 ∷ []))
-    × (setBits (guestAdapters (quickAfter fewer (limited 255)) (quickAfter fewer (limited 255) .device 0)) ≡ (5 ∷ 6 ∷ []))
-    × (setBits (guestDomains (quickAfter fewer (limited 255)) (quickAfter fewer (limited 255) .device 0)) ≡ (4 ∷ []))
+guest-lists : (adaptersIn (quickAfter oneUnbound (limited 255)) ≡ (5 ∷ []))
+    × (domainsIn (quickAfter oneUnbound (limited 255)) ≡ (4 ∷ 171 ∷ []))
+    × (adaptersIn (quickAfter fewer (limited 255)) ≡ (5 ∷ 6 ∷ []))
+    × (domainsIn (quickAfter fewer (limited 255)) ≡ (4 ∷ []))
 unfolding ascii digit bitAt noBits allBits bitsAbove included excluded both someBelow number numbers digitOf body startsHex digitsAfter digits anyBase atMost numberRule numberText allHex hexMask signed item andThen items before parts maskText fresh noDevice inProduct errnoOf numberOf stateAfter sameId firstFrom slotOf freeSlot withDevice withHost onDevice reading newDevice create numbersOf withNumbers limitOf single idOf pairedAdapters pairedDomains meetsHost meetsElsewhere quickAssignAt quickSetHost quickRule quickAfter maskWith wordsWith stored beyondLimits withConfig configure reserved configured targetOf after rebound moveAnswer passed guestDomains guestAdapters Queues.move queueOf setFrom setBits
 guest-lists = (refl, refl, refl, refl)
 
@@ -169,15 +169,10 @@ two-left = only-due exchanged q (omega arith) (λ j l h. not-due exchanged j (ot
 
 -- ---- the table
 
-settled : (s : State) → s ≡ exchanged
-    → (remaining s ∷ remaining (moves 1 q s) ∷ remaining (moves 2 q s) ∷ [] ≡ (2 ∷ 1 ∷ 0 ∷ []))
-    × (moveAnswer q s ∷ moveAnswer q (moves 1 q s) ∷ moveAnswer q (moves 2 q s) ∷ [] ≡ (Released ∷ BoundPassthrough ∷ Idle ∷ []))
-    × (movesUsed 0 s ≡ 0)
+settled : (s : State) → s ≡ exchanged → Settles s q (2 ∷ 1 ∷ 0 ∷ []) (Released ∷ BoundPassthrough ∷ Idle ∷ []) 0
 unfolding movesUsed
 settled s e =
-    subst (λ (t : State). (remaining t ∷ remaining (moves 1 q t) ∷ remaining (moves 2 q t) ∷ [] ≡ (2 ∷ 1 ∷ 0 ∷ []))
-    × (moveAnswer q t ∷ moveAnswer q (moves 1 q t) ∷ moveAnswer q (moves 2 q t) ∷ [] ≡ (Released ∷ BoundPassthrough ∷ Idle ∷ []))
-    × (movesUsed 0 t ≡ 0)) (sym e)
+    subst (λ (t : State). Settles t q (2 ∷ 1 ∷ 0 ∷ []) (Released ∷ BoundPassthrough ∷ Idle ∷ []) 0) (sym e)
     (left, three-moves .1, zero-min (remaining exchanged))
   where
     one : remaining (moves 1 q exchanged) ≡ 1
@@ -195,12 +190,6 @@ by-list steps n e = answers-quick steps (limited n) ∙ e
 
 by-guest : (f : State → List ℕ) (steps : List Step) {to : List ℕ} → f (quickAfter steps (limited 255)) ≡ to → f (afterAll steps (limited 255)) ≡ to
 by-guest f steps e = ap f (after-quick steps (limited 255)) ∙ e
-
-abbrev adaptersOf : State → List ℕ
-adaptersOf s = setBits (guestAdapters s (s .device 0))
-
-abbrev domainsOf : State → List ℕ
-domainsOf s = setBits (guestDomains s (s .device 0))
 
 infixr 5 _▸_
 -- a row and the rows after it
@@ -222,8 +211,8 @@ settings =
     ▸ by-list (twoDevices ++ (domain 2 "6" ∷ [])) 255 (lists .1)
     ▸ by-list (new 1 ∷ adapter 1 "5" ∷ domain 1 "4" ∷ []) 255 (lists .2)
     ▸ by-list (new 1 ∷ adapter 1 "63" ∷ adapter 1 "64" ∷ []) 63 (lists .3)
-    ▸ (by-guest adaptersOf oneUnbound (guest-lists .0), by-guest domainsOf oneUnbound (guest-lists .1))
-    ▸ (by-guest adaptersOf fewer (guest-lists .2), by-guest domainsOf fewer (guest-lists .3))
+    ▸ (by-guest adaptersIn oneUnbound (guest-lists .0), by-guest domainsIn oneUnbound (guest-lists .1))
+    ▸ (by-guest adaptersIn fewer (guest-lists .2), by-guest domainsIn fewer (guest-lists .3))
     ▸ by-list regained 255 (lists .4)
     ▸ by-list clash 255 (lists .5)
     ▸ settled (afterAll exchange (limited 255)) (after-quick exchange (limited 255))

@@ -85,7 +85,7 @@ unreserved = apmask "0x0" ∷ aqmask "0x0" ∷ []
 
 -- a row
 pub data Row : Type 0 where
-  -- a mask's text, read on a mask with some bits set, and what it comes to: the set bits, or an errno value
+  -- a mask's text, read on a mask with some bits set, and what it comes to: the set bits, or a refusal
   reads : String → List ℕ → Outcome (List ℕ) → Row
   -- texts of apmask and aqmask, a queue's APID and APQI, and whether it is reserved
   reserves : String → String → ℕ → ℕ → Bool → Row
@@ -93,25 +93,31 @@ pub data Row : Type 0 where
   answering : ℕ → List Step → List ℕ → Row
   -- a list of steps, and the guest adapters and guest domains of the first device after it
   guests : List Step → List ℕ → List ℕ → Row
-  -- a list of steps and a queue: the moves remaining before, after one and after two moves of it; what three moves answer; the moves that a sweep of budget 0 uses
+  -- a list of steps and a queue: the moves remaining before, after one and after two moves of it; what three moves answer;
+  -- the moves that a sweep of budget 0 uses
   settling : List Step → ℕ → List ℕ → List Moved → ℕ → Row
+
+-- the guest adapters and guest domains of the first device
+abbrev pub adaptersIn : State → List ℕ
+adaptersIn s = setBits (guestAdapters s (s .device 0))
+
+abbrev pub domainsIn : State → List ℕ
+domainsIn s = setBits (guestDomains s (s .device 0))
+
+-- the moves remaining before and after moves of queue q, what the moves answer, and what a sweep of budget 0 uses
+abbrev pub Settles : State → ℕ → List ℕ → List Moved → ℕ → Type 0
+Settles s q left to used =
+    (remaining s ∷ remaining (moves 1 q s) ∷ remaining (moves 2 q s) ∷ [] ≡ left)
+    × (moveAnswer q s ∷ moveAnswer q (moves 1 q s) ∷ moveAnswer q (moves 2 q s) ∷ [] ≡ to)
+    × (movesUsed 0 s ≡ used)
 
 -- what a row says
 abbrev pub Says : Row → Type 0
 Says (reads text old to) = shown (maskText (ascii text) (maskWith old)) ≡ to
 Says (reserves ap aq a d t) = reserved (record { apmask = readMask ap; aqmask = readMask aq }) (a * 256 + d) ≡ t
 Says (answering n steps to) = answers steps (limited n) ≡ to
-Says (guests steps us ds) =
-    (setBits (guestAdapters (afterAll steps (limited 255)) (afterAll steps (limited 255) .device 0)) ≡ us)
-    × (setBits (guestDomains (afterAll steps (limited 255)) (afterAll steps (limited 255) .device 0)) ≡ ds)
-Says (settling steps q left to used) =
-    (remaining (afterAll steps (limited 255)) ∷ remaining (moves 1 q (afterAll steps (limited 255))) ∷ remaining (moves 2 q (afterAll steps (limited 255))) ∷ [] ≡ left)
-    × (moveAnswer q (afterAll steps (limited 255))
-    ∷ moveAnswer q (moves 1 q (afterAll steps (limited 255)))
-    ∷ moveAnswer q (moves 2 q (afterAll steps (limited 255)))
-    ∷ []
-    ≡ to)
-    × (movesUsed 0 (afterAll steps (limited 255)) ≡ used)
+Says (guests steps us ds) = (adaptersIn (afterAll steps (limited 255)) ≡ us) × (domainsIn (afterAll steps (limited 255)) ≡ ds)
+Says (settling steps q left to used) = Settles (afterAll steps (limited 255)) q left to used
 
 -- every row of a table
 abbrev pub Every : List Row → Type 0

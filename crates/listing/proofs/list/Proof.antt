@@ -4,25 +4,28 @@ use native.Mathlib.Omega.{arith}
 use denote.Ref.{now}
 use lib.ListN.{length}
 use borrow.Author.Needs.{needs}
+use Rattle.errno.specs.Errno.{numberOf}
 use Rattle.errno.specs.declared.Errno.the-variants.{Enoent, Enospc}
 use Rattle.listing.proofs.Laws.{refused-listing, written-listing, errno-absent, errno-short, errno-none, matrix-at}
 use Rattle.listing.proofs.list.Statement.{statement}
 use Rattle.listing.proofs.list.Tie as tie
 
 returns : tie.Need-returns
+unfolding numberOf
 returns c =
     let f = c .before .before in
     let a = f .before .before .args in
-    refused-listing (c .refused .result) Enoent (c .refused .ensures .0)
+    refused-listing (c .refused .result) (numberOf Enoent) (omega arith) (c .refused .ensures .0)
     (errno-absent (now (a .words)) (now (a .drivers)) (a .id) (f .find .ensures) (length (now (a .buf))) (omega arith))
     (c .refused .ensures .1)
     (c .refused .ensures .2)
 
 returns-2 : tie.Need-returns-2
+unfolding numberOf
 returns-2 c =
     let f = c .before .before .before in
     let a = f .before .before .args in
-    refused-listing (c .refused2 .result) Enospc (c .refused2 .ensures .0)
+    refused-listing (c .refused2 .result) (numberOf Enospc) (omega arith) (c .refused2 .ensures .0)
     (errno-short (now (a .words)) (now (a .drivers)) (a .id) (f .find .ensures) (length (now (a .buf))) (omega arith) (omega arith))
     (c .refused2 .ensures .1)
     (c .refused2 .ensures .2)
