@@ -40,7 +40,7 @@ ahead-same : (m n k : ℕ) (s : State) → sumFrom n (suc k) (dueAt (moves m k s
 ahead-same m n k s = sum-from-cong n (suc k) (dueAt (moves m k s)) (dueAt s) (λ j l. moves-other m k j s (λ e. omega arith))
 
 -- a sweep lowers the moves remaining by the smaller of its budget and what its queues need
-pub remaining-sweep : (n k b : ℕ) (s : State) → k + n ≤ queues → remaining (sweepFrom n k b s) + min b (sumFrom n k (dueAt s)) ≡ remaining s
+remaining-sweep : (n k b : ℕ) (s : State) → k + n ≤ queues → remaining (sweepFrom n k b s) + min b (sumFrom n k (dueAt s)) ≡ remaining s
 unfolding sweepFrom sumFrom
 remaining-sweep zero k b s h = omega arith
 remaining-sweep (suc n) k b s h =
@@ -49,12 +49,12 @@ remaining-sweep (suc n) k b s h =
     let here : remaining t + m ≡ remaining s = remaining-moves m k s (omega arith) (omega arith) in
     omega (arith, here, ahead-same m n k s, remaining-sweep n (suc k) (b - m) t (omega arith))
 
-pub sum-all : (n : ℕ) (f : ℕ → ℕ) → sumFrom n 0 f ≡ sumBelow n f
+sum-all : (n : ℕ) (f : ℕ → ℕ) → sumFrom n 0 f ≡ sumBelow n f
 unfolding sumBelow
 sum-all n f = sym (zero-add (sumFrom n 0 f)) ∙ sum-split n 0 f ∙ ap (λ (m : ℕ). sumBelow m f) (zero-add n)
 
 -- the moves remaining are what all queues need
-pub all-due : (s : State) → sumFrom queues 0 (dueAt s) ≡ remaining s
+all-due : (s : State) → sumFrom queues 0 (dueAt s) ≡ remaining s
 unfolding remaining
 all-due s = sum-all queues (dueAt s)
 
@@ -67,7 +67,7 @@ remaining-swept b s =
 -- ---- the list of a sweep
 
 -- one list of moves after another
-pub each-append : (xs ys : List ℕ) (s : State) → moveEach (xs ++ ys) s ≡ moveEach ys (moveEach xs s)
+each-append : (xs ys : List ℕ) (s : State) → moveEach (xs ++ ys) s ≡ moveEach ys (moveEach xs s)
 unfolding moveEach
 each-append [] ys s = refl
 each-append (q ∷ xs) ys s = each-append xs ys (move q s)
