@@ -1,1 +1,259 @@
+-- Laws of carrying out a list of requests: one request, and the list from an index on.
+-- Assumes nothing.
+use Prim.Native.Nat.{ℕ, zero, suc, _+_, _-_, _*_, _%_, _≤_, _<_}
+use native.Mathlib.Nat.{zero-add, add-zero}
+use native.Mathlib.Omega.{arith}
+use mathlib.Core.Bool.{Bool, true, false, cond, not, _&&_, true≢false}
+use mathlib.Core.List.{List, [], _∷_, _++_, append-nil, append-assoc}
+use mathlib.Core.Path.{_≡_, refl, sym, ap, ap₂, subst, _∙_}
+use lib.Dec.{leb, eqb}
+use lib.ListN.{length, getD, set, take, drop, length-set, length-drop, take-append-drop}
+use lib.Seq.{append-snoc, length-take-le, take-all, take-suc-set, drop-set-lt, drop-drop}
+use borrow.Author.Tests.{leb-true, le-leb, ne-eqb}
+use Rattle.errno.specs.Outcome.{Outcome, granted, refused}
+use Rattle.errno.specs.declared.Errno.the-variants.{Einval}
+use Rattle.rules.specs.declared.Answer.{Answer}
+use Rattle.rules.specs.declared.Moved.{Moved}
+use Rattle.rules.specs.State.{Limits, State, fresh}
+use Rattle.rules.specs.Queues.{moveAnswer, movedNumber, remaining}
+use Rattle.rules.specs.Commands.{answered, errnoOf, stateAfter}
+use Rattle.record.specs.Layout.{stateIn}
+use Rattle.record.specs.Carried.{Memory, memory, read, memoryAfter, Carried}
+use Rattle.setup.specs.Fresh.{start, freshMemory}
+use Rattle.bind.specs.declared.Swept.{Swept}
+use Rattle.bind.specs.Moves.{moveBytes, Moving, Sweeping}
+use Rattle.model.specs.Steps.{Command, Step, queueOf, rule, afterAll}
+use Rattle.model.specs.Steps as Steps
+use Rattle.model.specs.Sweeps.{sweepSteps}
+use Rattle.model.proofs.Sweeping.{sweep-steps}
+use Rattle.calls.specs.Calls.{effect, Call, moves, sweeps, Chain, begins, goesOn, Demanded}
+use Rattle.calls.proofs.Chains.{called, reached, demanded}
+use Rattle.encoding.specs.Encoding.{Request, command, move, sweep, sizeOf, requestOf, whole, decode}
+use Rattle.run.specs.Running.{stepsFor, stepsOf, leaves, leavesAll, answerByte, answerBytes, Stepped, Run}
 
+-- ---- one request
+
+-- a command
+pub obeyed : (b : List ℕ) (x : Command) (m n : Memory) (r : Answer) (byte : ℕ) → requestOf b ≡ command x → byte ≡ answered r
+    → Carried (rule x) (effect x) m n r → Call m n (Steps.command x ∷ []) (answered r ∷ []) → Stepped (requestOf b) m n byte
+unfolding answerByte leaves stepsFor
+obeyed b x m n r byte e f c k =
+    subst (λ (y : Request). Stepped y m n byte) (sym e) (record { answer = f ∙ c .answer; memory = c .bytes; call = (answered r ∷ [], k) })
+
+-- a move of the queue of two bytes
+pub moved : (a d : ℕ) (ws qs rs : List ℕ) (r : ℕ) (m : Moved) → a < 256 → d < 256 → r ≡ movedNumber m → Moving (a * 256 + d) ws qs rs m
+    → Stepped (move a d) (memory ws qs) (memory ws rs) r
+unfolding answerByte leaves stepsFor queueOf
+moved a d ws qs rs r m ha hd f c =
+    let queue : a * 256 + d ≡ a % 256 * 256 + d % 256 = omega arith in
+    record {
+      answer = f ∙ ap movedNumber (c .answer) ∙ ap (λ (n : ℕ). movedNumber (moveAnswer n (stateIn ws qs))) queue;
+      memory = ap (memory ws) (c .drivers) ∙ ap (λ (n : ℕ). memory ws (moveBytes ws n qs)) queue;
+      call = ([], moves a d m ha hd c refl);
+    }
+
+-- a sweep
+swept-byte : (t more : Bool) (r : ℕ) → more ≡ not t → r ≡ cond more 1 0 → r ≡ cond t 0 1
+swept-byte true more r e f = f ∙ ap (λ (b : Bool). cond b 1 0) e
+swept-byte false more r e f = f ∙ ap (λ (b : Bool). cond b 1 0) e
+
+pub swept : (b : ℕ) (ws qs rs : List ℕ) (r : ℕ) (w : Swept) → r ≡ cond (w .more) 1 0 → Sweeping b ws qs rs w
+    → Stepped (sweep b) (memory ws qs) (memory ws rs) r
+unfolding answerByte leaves stepsFor
+swept b ws qs rs r w f c =
+    let s = stateIn ws qs in
+    let left : stateIn ws rs ≡ afterAll (sweepSteps b s) s = c .sweep .made ∙ sym (sweep-steps b s) in
+    record {
+      answer = swept-byte (eqb (remaining (afterAll (sweepSteps b s) s)) 0) (w .more) r (c .sweep .remain ∙ ap (λ (t : State). not (eqb (remaining t) 0)) left) f;
+      memory = ap (memory ws) (c .drivers);
+      call = ([], sweeps b w c refl);
+    }
+
+-- an operation that is no command's and no sweep's
+pub is-move : (b : List ℕ) → (getD b 0 0 ≡ 0 → ⊥) → (getD b 0 0 ≡ 1 → ⊥) → (getD b 0 0 ≡ 2 → ⊥) → (getD b 0 0 ≡ 3 → ⊥) → (getD b 0 0 ≡ 4 → ⊥)
+    → (getD b 0 0 ≡ 5 → ⊥) → (getD b 0 0 ≡ 6 → ⊥) → (getD b 0 0 ≡ 7 → ⊥) → (getD b 0 0 ≡ 8 → ⊥) → (getD b 0 0 ≡ 10 → ⊥)
+    → requestOf b ≡ move (getD b 2 0) (getD b 3 0)
+unfolding requestOf
+is-move b h0 h1 h2 h3 h4 h5 h6 h7 h8 h10 =
+    let n = getD b 0 0 in
+    rw (ne-eqb n 0 h0, ne-eqb n 1 h1, ne-eqb n 2 h2, ne-eqb n 3 h3, ne-eqb n 4 h4, ne-eqb n 5 h5, ne-eqb n 6 h6, ne-eqb n 7 h7, ne-eqb n 8 h8, ne-eqb n 10 h10)
+
+-- a part up to the end is all that follows
+pub payload : (k : ℕ) (b : List ℕ) → take (length b - k) (drop k b) ≡ drop k b
+payload k b = take-all (length b - k) (drop k b) (omega (arith, length-drop k b))
+
+-- ---- the steps of a list
+
+-- a step has a header
+size-least : (b : List ℕ) → 20 ≤ sizeOf b
+unfolding sizeOf
+size-least b = omega arith
+
+-- a whole step lies within the list
+whole-fits : (b : List ℕ) → whole b ≡ true → sizeOf b ≤ length b
+unfolding whole
+whole-fits b e = go (leb 20 (length b)) (leb (sizeOf b) (length b)) refl e
+  where
+    go : (s t : Bool) → leb (sizeOf b) (length b) ≡ t → cond s t false ≡ true → sizeOf b ≤ length b
+    go true true f e = leb-true (sizeOf b) (length b) f
+    go true false f e = absurd (true≢false (sym e))
+    go false t f e = absurd (true≢false (sym e))
+
+decode-whole : (k : ℕ) (b : List ℕ) → whole b ≡ true → decode (suc k) b ≡ requestOf (take (sizeOf b) b) ∷ decode k (drop (sizeOf b) b)
+unfolding decode
+decode-whole k b e = ap (λ (t : Bool). cond t (requestOf (take (sizeOf b) b) ∷ decode k (drop (sizeOf b) b)) []) e
+
+decode-none : (k : ℕ) (b : List ℕ) → whole b ≡ false → decode k b ≡ []
+unfolding decode
+decode-none zero b e = refl
+decode-none (suc k) b e = ap (λ (t : Bool). cond t (requestOf (take (sizeOf b) b) ∷ decode k (drop (sizeOf b) b)) []) e
+
+-- a whole step of this size lies at an index
+pub record Left (bytes : List ℕ) (at size : ℕ) : Type 0 where
+  pub found : whole (drop at bytes) ≡ true
+  pub sized : size ≡ sizeOf (drop at bytes)
+  pub least : 20 ≤ size
+  pub within : at + size ≤ length bytes
+
+pub part-long : {bytes : List ℕ} {at size : ℕ} → Left bytes at size → length (take (at + size - at) (drop at bytes)) ≡ size
+part-long {bytes} {at} {size} f =
+    let size-is : at + size - at ≡ size = omega arith in
+    length-take-le (at + size - at) (drop at bytes) (omega (arith, f .within, length-drop at bytes)) ∙ size-is
+
+module _ (bytes : List ℕ) (at size : ℕ) (is : size ≡ cond (whole (drop at bytes)) (sizeOf (drop at bytes)) 0) where
+  pub step-left : at ≤ length bytes → (size ≡ 0 → ⊥) → Left bytes at size
+  step-left l h = go (whole (drop at bytes)) refl is
+    where
+      go : (t : Bool) → whole (drop at bytes) ≡ t → size ≡ cond t (sizeOf (drop at bytes)) 0 → Left bytes at size
+      go true e f =
+          record {
+            found = e;
+            sized = f;
+            least = omega (arith, size-least (drop at bytes));
+            within = omega (arith, whole-fits (drop at bytes) e, length-drop at bytes);
+          }
+      go false e f = absurd (h f)
+
+  none-left : size ≡ 0 → whole (drop at bytes) ≡ false
+  none-left z = go (whole (drop at bytes)) refl is
+    where
+      go : (t : Bool) → whole (drop at bytes) ≡ t → size ≡ cond t (sizeOf (drop at bytes)) 0 → whole (drop at bytes) ≡ false
+      go true e f = absurd (omega (arith, size-least (drop at bytes)))
+      go false e f = e
+
+-- ---- a run: what the whole list comes to is what was done in n steps, and what the rest from the index on comes to
+
+pub record Going (l : Limits) (bytes old new : List ℕ) (m : Memory) (at n : ℕ) : Type 0 where
+  pub reached : at ≤ length bytes
+  pub room : n ≤ length old
+  pub long : length new ≡ length old
+  pub number : length (decode (length old) bytes) ≡ n + length (decode (length old - n) (drop at bytes))
+  pub memory : leavesAll (decode (length old) bytes) (freshMemory (l .adapter) (l .domain)) ≡ leavesAll (decode (length old - n) (drop at bytes)) m
+  pub answers : answerBytes (decode (length old) bytes) (fresh l) ≡ take n new ++ answerBytes (decode (length old - n) (drop at bytes)) (read m)
+  pub rest : drop n new ≡ drop n old
+  pub done : List Step
+  pub said : List ℕ
+  pub chain : Chain l m done said
+  pub steps : stepsOf (decode (length old) bytes) (fresh l) ≡ done ++ stepsOf (decode (length old - n) (drop at bytes)) (read m)
+
+-- a fresh record of limits that are bytes
+pub made : {a d : ℕ} {m n : Memory} {r : Answer} → Carried (start a d) (λ k. freshMemory a d) m n r → a < 256 → d < 256
+    → (answered r ≡ 0) × (n ≡ freshMemory a d)
+unfolding start errnoOf memoryAfter
+made {a} {d} {m} {n} {r} c ha hd =
+    let good : (leb a 255 && leb d 255) ≡ true = ap₂ _&&_ (le-leb a 255 (omega arith)) (le-leb d 255 (omega arith)) in
+    let s : State = fresh (record { adapter = a; domain = d }) in (
+      c .answer ∙ ap (λ (b : Bool). errnoOf (cond b (granted s) (refused Einval))) good,
+      c .bytes ∙ ap (λ (b : Bool). memoryAfter m (cond b (granted s) (refused Einval)) (freshMemory a d)) good,
+    )
+
+pub starts : {a d : ℕ} {m n : Memory} {r : Answer} (bytes old : List ℕ) → Carried (start a d) (λ k. freshMemory a d) m n r → a < 256 → d < 256
+    → Going (record { adapter = a; domain = d }) bytes old old n 0 0
+unfolding afterAll
+starts {a} {d} {m} {n} {r} bytes old c ha hd =
+    let f = made c ha hd in
+    let chain = begins a d r c (f .0) in
+    let state = reached chain .state in
+    let all : length old - 0 ≡ length old = omega arith in
+    record {
+      reached = omega arith;
+      room = omega arith;
+      long = refl;
+      number = rw (all, zero-add);
+      memory = rw all (ap (leavesAll (decode (length old) bytes)) (sym (f .1)));
+      answers = rw all (ap (answerBytes (decode (length old) bytes)) (sym state));
+      rest = refl;
+      done = [];
+      said = [];
+      chain = chain;
+      steps = rw all (ap (stepsOf (decode (length old) bytes)) (sym state));
+    }
+
+module _ {l : Limits} {bytes old new : List ℕ} {m : Memory} {at n : ℕ} (g : Going l bytes old new m at n) where
+  -- one request more
+  pub goes-on : (size r : ℕ) (k : Memory) → Left bytes at size → n < length old → Stepped (requestOf (take (at + size - at) (drop at bytes))) m k r
+      → Going l bytes old (set new n r) k (at + size) (n + 1)
+  unfolding leavesAll answerBytes stepsOf
+  goes-on size r k f h c =
+      let b = drop at bytes in
+      let x = requestOf (take (at + size - at) b) in
+      let i = length old - (n + 1) in
+      let ys = decode i (drop (at + size) bytes) in
+      let more : length old - n ≡ suc i = omega arith in
+      let part : size ≡ at + size - at = omega arith in
+      let next : suc n ≡ n + 1 = omega arith in
+      let turn : decode (length old - n) b ≡ x ∷ ys =
+      ap (λ (j : ℕ). decode j b) more ∙ decode-whole i b (f .found) ∙ ap (λ (z : ℕ). requestOf (take z b) ∷ decode i (drop z b)) (sym (f .sized))
+      ∙ ap₂ (λ (z : ℕ) (d : List ℕ). requestOf (take z b) ∷ decode i d) part (drop-drop size at bytes) in
+      let count : n + length (x ∷ ys) ≡ n + 1 + length ys = omega arith in
+      let state : afterAll (stepsFor x (read m)) (read m) ≡ read k = sym (called (c .call .1) .state) in
+      record {
+        reached = f .within;
+        room = omega arith;
+        long = rw length-set (g .long);
+        number = g .number ∙ ap (λ (q : List Request). n + length q) turn ∙ count;
+        memory = g .memory ∙ ap (λ (q : List Request). leavesAll q m) turn ∙ ap (leavesAll ys) (sym (c .memory));
+        answers =
+            g .answers ∙ ap (λ (q : List Request). take n new ++ answerBytes q (read m)) turn
+            ∙ ap₂ (λ (v : ℕ) (t : State). take n new ++ (v ∷ answerBytes ys t)) (sym (c .answer)) state
+            ∙ sym (append-snoc (take n new) r (answerBytes ys (read k)))
+            ∙ ap (λ (q : List ℕ). q ++ answerBytes ys (read k)) (sym (take-suc-set new n r (omega (arith, g .long))))
+            ∙ ap (λ (j : ℕ). take j (set new n r) ++ answerBytes ys (read k)) next;
+        rest = drop-set-lt (n + 1) new n r (omega arith) ∙ sym (drop-drop 1 n new) ∙ ap (drop 1) (g .rest) ∙ drop-drop 1 n old;
+        done = g .done ++ stepsFor x (read m);
+        said = g .said ++ c .call .0;
+        chain = goesOn (g .chain) (c .call .1);
+        steps =
+            g .steps ∙ ap (λ (q : List Request). g .done ++ stepsOf q (read m)) turn
+            ∙ ap (λ (t : State). g .done ++ (stepsFor x (read m) ++ stepsOf ys t)) state
+            ∙ sym (append-assoc (g .done) (stepsFor x (read m)) (stepsOf ys (read k)));
+      }
+
+  -- nothing is left to do
+  ends : decode (length old - n) (drop at bytes) ≡ [] → Run l bytes old new m n
+  unfolding leavesAll answerBytes stepsOf
+  ends e =
+      let xs = decode (length old) bytes in
+      let given : answerBytes xs (fresh l) ≡ take n new = g .answers ∙ ap (λ (q : List Request). take n new ++ answerBytes q (read m)) e ∙ append-nil (take n new) in
+      let steps : stepsOf xs (fresh l) ≡ g .done = g .steps ∙ ap (λ (q : List Request). g .done ++ stepsOf q (read m)) e ∙ append-nil (g .done) in
+      let said : g .said ≡ Steps.answers (g .done) (fresh l) = reached (g .chain) .said in
+      let chain : Chain l m (stepsOf xs (fresh l)) (Steps.answers (stepsOf xs (fresh l)) (fresh l)) =
+      subst (λ (q : List Step). Chain l m q (Steps.answers q (fresh l))) (sym steps) (subst (Chain l m (g .done)) said (g .chain)) in
+      record {
+        number = sym (g .number ∙ ap (λ (q : List Request). n + length q) e ∙ add-zero n);
+        answers = sym (take-append-drop n new) ∙ ap₂ _++_ (sym given) (g .rest);
+        memory = sym (g .memory ∙ ap (λ (q : List Request). leavesAll q m) e);
+        chain = chain;
+        demand = demanded chain;
+      }
+
+  -- no whole step is left
+  pub ends-early : (size : ℕ) → size ≡ cond (whole (drop at bytes)) (sizeOf (drop at bytes)) 0 → size ≡ 0 → Run l bytes old new m n
+  ends-early size is z = ends (decode-none (length old - n) (drop at bytes) (none-left bytes at size is z))
+
+  -- no room is left
+  pub ends-full : length old ≤ n → Run l bytes old new m n
+  unfolding decode
+  ends-full h =
+      let none : length old - n ≡ 0 = omega arith in
+      ends (ap (λ (k : ℕ). decode k (drop at bytes)) none)

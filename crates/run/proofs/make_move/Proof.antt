@@ -1,22 +1,17 @@
+-- `make_move` meets its contract.
+-- Assumes nothing.
+use native.Mathlib.Omega.{arith}
+use denote.Ref.{now}
 use borrow.Author.Needs.{needs}
+use Rattle.run.proofs.Laws.{moved}
 use Rattle.run.proofs.make_move.Statement.{statement}
 use Rattle.run.proofs.make_move.Tie as tie
-use Rattle.run.proofs.make_move.Reads as reads
-use Rattle.run.proofs.make_move.Lts as lts
-use Rattle.bind.proofs.move_queue.Reads as move-queue-reads
-use Rattle.rules.proofs.moved_number.Reads as moved-number-reads
 
--- src/lib.rt:70:25
-move-queue-requires : tie.Need-move-queue-requires
-move-queue-requires c κs = search needs
-
--- src/lib.rt:70:5
-moved-number-requires : tie.Need-moved-number-requires
-moved-number-requires c κs = search needs
-
--- src/lib.rt:66:1
 returns : tie.Need-returns
-returns c = search needs
+returns c =
+    let s = c .before .before .before in
+    let a = s .args in
+    moved (a .adapter .0) (a .domain .0) (now (a .words)) (now (a .drivers)) _ _ (c .before .move-queue .result) (omega (arith, s)) (omega (arith, s)) (c .moved-number .ensures) (c .before .move-queue .ensures)
 
 pub make-move-spec : {M : Type 1} → statement M
-make-move-spec = tie.close (tie.spec move-queue-requires moved-number-requires returns)
+make-move-spec = tie.close (tie.spec (λ c κs. search needs) (λ c κs. search needs) returns)

@@ -1,21 +1,25 @@
+-- `make_sweep` meets its contract.
+-- Assumes nothing.
+use Prim.Native.Nat.{ℕ}
+use mathlib.Core.Bool.{Bool, cond}
+use mathlib.Core.Path.{sym, ap}
+use denote.Ref.{now}
 use borrow.Author.Needs.{needs}
+use Rattle.run.proofs.Laws.{swept}
 use Rattle.run.proofs.make_sweep.Statement.{statement}
 use Rattle.run.proofs.make_sweep.Tie as tie
-use Rattle.run.proofs.make_sweep.Reads as reads
-use Rattle.run.proofs.make_sweep.Lts as lts
-use Rattle.bind.proofs.sweep.Reads as sweep-reads
 
--- src/lib.rt:78:9
-sweep-requires : tie.Need-sweep-requires
-sweep-requires c κs = search needs
-
--- src/lib.rt:74:1
 returns : tie.Need-returns
-returns c = search needs
+returns c =
+    let a = c .before .before .before .args in
+    let w = c .before .sweep in
+    swept (a .budget) (now (a .words)) (now (a .drivers)) _ _ (w .result) (sym (ap (λ (b : Bool). cond {A = ℕ} b 1 0) (c .if1 .taken))) (w .ensures)
 
--- src/lib.rt:74:1
 returns-2 : tie.Need-returns-2
-returns-2 c = search needs
+returns-2 c =
+    let a = c .before .before .before .args in
+    let w = c .before .sweep in
+    swept (a .budget) (now (a .words)) (now (a .drivers)) _ _ (w .result) (sym (ap (λ (b : Bool). cond {A = ℕ} b 1 0) (c .if1 .left))) (w .ensures)
 
 pub make-sweep-spec : {M : Type 1} → statement M
-make-sweep-spec = tie.close (tie.spec sweep-requires returns returns-2)
+make-sweep-spec = tie.close (tie.spec (λ c κs. search needs) returns returns-2)
