@@ -18,8 +18,8 @@ use Rattle.rules.specs.declared.Moved.the-variants.{Idle, Released, BoundHost, 
 use Rattle.rules.specs.State.{HostMasks, Config, queues}
 use Rattle.rules.specs.Queues.{reserved, configured, targetOf, moved, after, due, dueAt, sumBelow, remaining, rebound, moveAnswer, move, moves, sweepFrom, sweep, mostMoves, movesUsed}
 use Rattle.rules.proofs.Products.{in-product, queue-apid}
-use Rattle.rules.proofs.Sums.{sum-none, sum-more}
-use Rattle.rules.proofs.Sweeps.{sumFrom, sum-split, remaining-swept, sweeping}
+use Rattle.rules.proofs.Sums.{sum-none, sum-more, sumFrom, sum-split}
+use Rattle.rules.proofs.Sweeps.{remaining-swept, sweeping}
 use Rattle.record.specs.Layout.{stateIn, hostIn, configIn, driverOf, byteOf}
 use Rattle.record.proofs.Laws.{driver-of-byte, read-rebound}
 use Rattle.bind.specs.declared.Swept.{Swept}

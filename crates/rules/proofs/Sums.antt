@@ -1,10 +1,10 @@
 -- Sums over the numbers below n.
 -- Assumes nothing.
 use Prim.Native.Nat.{ℕ, zero, suc, _+_, _*_, _≤_, _<_}
-use native.Mathlib.Nat.{eq-or-lt-of-le, le-of-suc-le-suc, mul-suc}
+use native.Mathlib.Nat.{add-zero, zero-add, eq-or-lt-of-le, le-of-suc-le-suc, le-refl, mul-suc}
 use native.Mathlib.Numerals.{add-one}
 use native.Mathlib.Omega.{arith}
-use mathlib.Core.Path.{_≡_, refl, sym, ap₂, subst}
+use mathlib.Core.Path.{_≡_, refl, sym, ap, ap₂, subst, _∙_}
 use mathlib.Core.Logic.{⊎-elim}
 use Rattle.rules.specs.Queues.{sumBelow}
 
@@ -55,3 +55,25 @@ pub zero-sum : (n : ℕ) (f : ℕ → ℕ) → ((j : ℕ) → j < n → f j ≡ 
 unfolding sumBelow
 zero-sum zero f e = refl
 zero-sum (suc n) f e = omega (arith, zero-sum n f (λ j h. e j (omega arith)), e n (omega arith))
+
+-- the sum of the n terms from k on
+unfoldable pub sumFrom : ℕ → ℕ → (ℕ → ℕ) → ℕ
+sumFrom zero k f = 0
+sumFrom (suc n) k f = f k + sumFrom n (suc k) f
+
+pub sum-from-cong : (n k : ℕ) (f g : ℕ → ℕ) → ((j : ℕ) → k ≤ j → f j ≡ g j) → sumFrom n k f ≡ sumFrom n k g
+unfolding sumFrom
+sum-from-cong zero k f g e = refl
+sum-from-cong (suc n) k f g e = ap₂ (λ (a b : ℕ). a + b) (e k (le-refl k)) (sum-from-cong n (suc k) f g (λ j h. e j (omega arith)))
+
+pub sum-split : (n k : ℕ) (f : ℕ → ℕ) → sumBelow k f + sumFrom n k f ≡ sumBelow (k + n) f
+unfolding sumFrom sumBelow
+sum-split zero k f = rw (add-zero k) (add-zero (sumBelow k f))
+sum-split (suc n) k f =
+    let i : sumBelow (suc k) f + sumFrom n (suc k) f ≡ sumBelow (suc k + n) f = sum-split n (suc k) f in
+    let e : suc k + n ≡ k + suc n = omega arith in
+    subst (λ (m : ℕ). sumBelow k f + (f k + sumFrom n (suc k) f) ≡ sumBelow m f) e (omega arith)
+
+pub sum-all : (n : ℕ) (f : ℕ → ℕ) → sumFrom n 0 f ≡ sumBelow n f
+unfolding sumBelow
+sum-all n f = sym (zero-add (sumFrom n 0 f)) ∙ sum-split n 0 f ∙ ap (λ (m : ℕ). sumBelow m f) (zero-add n)

@@ -1,39 +1,20 @@
 -- A sweep makes the moves of its list, none of them idle, and the moves remaining are so many fewer.
 -- Assumes nothing.
 use Prim.Native.Nat.{ℕ, zero, suc, _+_, _-_, _≤_, min}
-use native.Mathlib.Nat.{add-zero, zero-add, le-refl}
 use native.Mathlib.Omega.{arith}
 use mathlib.Core.Bool.{Bool, not}
 use mathlib.Core.List.{List, [], _∷_, _++_}
-use mathlib.Core.Path.{_≡_, refl, sym, ap, ap₂, subst, _∙_}
+use mathlib.Core.Path.{_≡_, refl, sym, ap, subst, _∙_}
 use lib.Dec.{eqb}
 use lib.ListN.{length, replicate, length-append, length-replicate}
 use borrow.Author.Tests.{eqb-true, eq-eqb, not-false}
 use Rattle.rules.specs.State.{State, queues}
-use Rattle.rules.specs.Queues.{dueAt, sumBelow, remaining, move, moves, sweepFrom, sweep, mostMoves, movesUsed}
+use Rattle.rules.specs.Queues.{dueAt, remaining, move, moves, sweepFrom, sweep, mostMoves, movesUsed}
 use Rattle.rules.specs.Sweeps.{sweptFrom, swept, moveEach, EachDue, Sweep}
-use Rattle.rules.proofs.Sums.{sum-le}
+use Rattle.rules.proofs.Sums.{sum-le, sumFrom, sum-from-cong, sum-all}
 use Rattle.rules.proofs.Moves.{due-here, due-two, spent-at, idle-due, moves-other, remaining-moves, remaining-none}
 
 -- ---- the moves remaining
-
--- the sum of the n terms from k on
-unfoldable pub sumFrom : ℕ → ℕ → (ℕ → ℕ) → ℕ
-sumFrom zero k f = 0
-sumFrom (suc n) k f = f k + sumFrom n (suc k) f
-
-sum-from-cong : (n k : ℕ) (f g : ℕ → ℕ) → ((j : ℕ) → k ≤ j → f j ≡ g j) → sumFrom n k f ≡ sumFrom n k g
-unfolding sumFrom
-sum-from-cong zero k f g e = refl
-sum-from-cong (suc n) k f g e = ap₂ (λ (a b : ℕ). a + b) (e k (le-refl k)) (sum-from-cong n (suc k) f g (λ j h. e j (omega arith)))
-
-pub sum-split : (n k : ℕ) (f : ℕ → ℕ) → sumBelow k f + sumFrom n k f ≡ sumBelow (k + n) f
-unfolding sumFrom sumBelow
-sum-split zero k f = rw (add-zero k) (add-zero (sumBelow k f))
-sum-split (suc n) k f =
-    let i : sumBelow (suc k) f + sumFrom n (suc k) f ≡ sumBelow (suc k + n) f = sum-split n (suc k) f in
-    let e : suc k + n ≡ k + suc n = omega arith in
-    subst (λ (m : ℕ). sumBelow k f + (f k + sumFrom n (suc k) f) ≡ sumBelow m f) e (omega arith)
 
 -- moves of a queue leave what is due of those after it
 ahead-same : (m n k : ℕ) (s : State) → sumFrom n (suc k) (dueAt (moves m k s)) ≡ sumFrom n (suc k) (dueAt s)
@@ -48,10 +29,6 @@ remaining-sweep (suc n) k b s h =
     let t = moves m k s in
     let here : remaining t + m ≡ remaining s = remaining-moves m k s (omega arith) (omega arith) in
     omega (arith, here, ahead-same m n k s, remaining-sweep n (suc k) (b - m) t (omega arith))
-
-sum-all : (n : ℕ) (f : ℕ → ℕ) → sumFrom n 0 f ≡ sumBelow n f
-unfolding sumBelow
-sum-all n f = sym (zero-add (sumFrom n 0 f)) ∙ sum-split n 0 f ∙ ap (λ (m : ℕ). sumBelow m f) (zero-add n)
 
 -- the moves remaining are what all queues need
 all-due : (s : State) → sumFrom queues 0 (dueAt s) ≡ remaining s
