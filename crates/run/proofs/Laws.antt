@@ -29,16 +29,19 @@ use Rattle.model.proofs.Sweeping.{sweep-steps}
 use Rattle.calls.specs.Calls.{effect, Call, moves, sweeps, Chain, begins, goesOn, Demanded}
 use Rattle.calls.proofs.Chains.{called, reached, demanded}
 use Rattle.encoding.specs.Encoding.{Request, command, move, sweep, sizeOf, requestOf, whole, decode}
-use Rattle.run.specs.Running.{stepsFor, stepsOf, leaves, leavesAll, answerByte, answerBytes, Stepped, Run}
+use Rattle.run.specs.Running.{stepsFor, stepsOf, leaves, leavesAll, answerByte, answerBytes, Stepped, GoesOn, CarriedOut, Run}
 
 -- ---- one request
+
+pub as-asked : {x y : Request} {m n : Memory} {r : ℕ} → x ≡ y → Stepped y m n r → Stepped x m n r
+as-asked {x} {y} {m} {n} {r} e = subst (λ (z : Request). Stepped z m n r) (sym e)
 
 -- a command
 pub obeyed : (b : List ℕ) (x : Command) (m n : Memory) (r : Answer) (byte : ℕ) → requestOf b ≡ command x → byte ≡ answered r
     → Carried (rule x) (effect x) m n r → Call m n (Steps.command x ∷ []) (answered r ∷ []) → Stepped (requestOf b) m n byte
 unfolding answerByte leaves stepsFor
 obeyed b x m n r byte e f c k =
-    subst (λ (y : Request). Stepped y m n byte) (sym e) (record { answer = f ∙ c .answer; memory = c .bytes; call = (answered r ∷ [], k) })
+    as-asked e (record { answer = f ∙ c .answer; memory = c .bytes; call = (answered r ∷ [], k) })
 
 -- a move of the queue of two bytes
 pub moved : (a d : ℕ) (ws qs rs : List ℕ) (r : ℕ) (m : Moved) → a < 256 → d < 256 → r ≡ movedNumber m → Moving (a * 256 + d) ws qs rs m
@@ -143,58 +146,57 @@ module _ (bytes : List ℕ) (at size : ℕ) (is : size ≡ cond (whole (drop at 
 
 -- ---- a run: what the whole list comes to is what was done in n steps, and what the rest from the index on comes to
 
-pub record Going (l : Limits) (bytes old new : List ℕ) (m : Memory) (at n : ℕ) : Type 0 where
+pub record Going (bytes old new : List ℕ) (k m : Memory) (at n : ℕ) : Type 0 where
   pub reached : at ≤ length bytes
   pub room : n ≤ length old
   pub long : length new ≡ length old
   pub number : length (decode (length old) bytes) ≡ n + length (decode (length old - n) (drop at bytes))
-  pub memory : leavesAll (decode (length old) bytes) (freshMemory (l .adapter) (l .domain)) ≡ leavesAll (decode (length old - n) (drop at bytes)) m
-  pub answers : answerBytes (decode (length old) bytes) (fresh l) ≡ take n new ++ answerBytes (decode (length old - n) (drop at bytes)) (read m)
+  pub memory : leavesAll (decode (length old) bytes) k ≡ leavesAll (decode (length old - n) (drop at bytes)) m
+  pub answers : answerBytes (decode (length old) bytes) (read k) ≡ take n new ++ answerBytes (decode (length old - n) (drop at bytes)) (read m)
   pub rest : drop n new ≡ drop n old
   pub done : List Step
-  pub said : List ℕ
-  pub chain : Chain l m done said
-  pub steps : stepsOf (decode (length old) bytes) (fresh l) ≡ done ++ stepsOf (decode (length old - n) (drop at bytes)) (read m)
+  pub calls : GoesOn k m done
+  pub steps : stepsOf (decode (length old) bytes) (read k) ≡ done ++ stepsOf (decode (length old - n) (drop at bytes)) (read m)
 
--- a fresh record of limits that are bytes
-pub made : {a d : ℕ} {m n : Memory} {r : Answer} → Carried (start a d) (λ k. freshMemory a d) m n r → a < 256 → d < 256
-    → (answered r ≡ 0) × (n ≡ freshMemory a d)
-unfolding start errnoOf memoryAfter
-made {a} {d} {m} {n} {r} c ha hd =
-    let good : (leb a 255 && leb d 255) ≡ true = ap₂ _&&_ (le-leb a 255 (omega arith)) (le-leb d 255 (omega arith)) in
-    let s : State = fresh (record { adapter = a; domain = d }) in (
-      c .answer ∙ ap (λ (b : Bool). errnoOf (cond b (granted s) (refused Einval))) good,
-      c .bytes ∙ ap (λ (b : Bool). memoryAfter m (cond b (granted s) (refused Einval)) (freshMemory a d)) good,
+-- no call
+stays : (m : Memory) → GoesOn m m []
+unfolding GoesOn
+stays m l xs rs c =
+    ([], subst (λ (q : List Step). Chain l m q (rs ++ [])) (sym (append-nil xs)) (subst (Chain l m xs) (sym (append-nil rs)) c))
+
+-- one call more
+further : (m n k : Memory) (xs ys : List Step) {rs : List ℕ} → GoesOn m n xs → Call n k ys rs → GoesOn m k (xs ++ ys)
+unfolding GoesOn
+further m n k xs ys {rs} h c l zs ts d =
+    let g = h l zs ts d in
+    let e = goesOn (g .1) c in (
+      g .0 ++ rs,
+      subst (λ (q : List Step). Chain l k q (ts ++ (g .0 ++ rs))) (append-assoc zs xs ys)
+          (subst (Chain l k ((zs ++ xs) ++ ys)) (append-assoc ts (g .0) rs) e),
     )
 
-pub starts : {a d : ℕ} {m n : Memory} {r : Answer} (bytes old : List ℕ) → Carried (start a d) (λ k. freshMemory a d) m n r → a < 256 → d < 256
-    → Going (record { adapter = a; domain = d }) bytes old old n 0 0
-unfolding afterAll
-starts {a} {d} {m} {n} {r} bytes old c ha hd =
-    let f = made c ha hd in
-    let chain = begins a d r c (f .0) in
-    let state = reached chain .state in
+pub starts : (bytes old : List ℕ) (m : Memory) → Going bytes old old m m 0 0
+starts bytes old m =
     let all : length old - 0 ≡ length old = omega arith in
     record {
       reached = omega arith;
       room = omega arith;
       long = refl;
       number = rw (all, zero-add);
-      memory = rw all (ap (leavesAll (decode (length old) bytes)) (sym (f .1)));
-      answers = rw all (ap (answerBytes (decode (length old) bytes)) (sym state));
+      memory = rw all;
+      answers = rw all;
       rest = refl;
       done = [];
-      said = [];
-      chain = chain;
-      steps = rw all (ap (stepsOf (decode (length old) bytes)) (sym state));
+      calls = stays m;
+      steps = rw all;
     }
 
-module _ {l : Limits} {bytes old new : List ℕ} {m : Memory} {at n : ℕ} (g : Going l bytes old new m at n) where
+module _ {bytes old new : List ℕ} {k m : Memory} {at n : ℕ} (g : Going bytes old new k m at n) where
   -- one request more
-  pub goes-on : (size r : ℕ) (k : Memory) → Left bytes at size → n < length old → Stepped (requestOf (take (at + size - at) (drop at bytes))) m k r
-      → Going l bytes old (set new n r) k (at + size) (n + 1)
+  pub goes-on : (size r : ℕ) (o : Memory) → Left bytes at size → n < length old → Stepped (requestOf (take (at + size - at) (drop at bytes))) m o r
+      → Going bytes old (set new n r) k o (at + size) (n + 1)
   unfolding leavesAll answerBytes stepsOf
-  goes-on size r k f h c =
+  goes-on size r o f h c =
       let b = drop at bytes in
       let x = requestOf (take (at + size - at) b) in
       let i = length old - (n + 1) in
@@ -206,7 +208,7 @@ module _ {l : Limits} {bytes old new : List ℕ} {m : Memory} {at n : ℕ} (g : 
       ap (λ (j : ℕ). decode j b) more ∙ decode-whole i b (f .found) ∙ ap (λ (z : ℕ). requestOf (take z b) ∷ decode i (drop z b)) (sym (f .sized))
       ∙ ap₂ (λ (z : ℕ) (d : List ℕ). requestOf (take z b) ∷ decode i d) part (drop-drop size at bytes) in
       let count : n + length (x ∷ ys) ≡ n + 1 + length ys = omega arith in
-      let state : afterAll (stepsFor x (read m)) (read m) ≡ read k = sym (called (c .call .1) .state) in
+      let state : afterAll (stepsFor x (read m)) (read m) ≡ read o = sym (called (c .call .1) .state) in
       record {
         reached = f .within;
         room = omega arith;
@@ -216,44 +218,72 @@ module _ {l : Limits} {bytes old new : List ℕ} {m : Memory} {at n : ℕ} (g : 
         answers =
             g .answers ∙ ap (λ (q : List Request). take n new ++ answerBytes q (read m)) turn
             ∙ ap₂ (λ (v : ℕ) (t : State). take n new ++ (v ∷ answerBytes ys t)) (sym (c .answer)) state
-            ∙ sym (append-snoc (take n new) r (answerBytes ys (read k)))
-            ∙ ap (λ (q : List ℕ). q ++ answerBytes ys (read k)) (sym (take-suc-set new n r (omega (arith, g .long))))
-            ∙ ap (λ (j : ℕ). take j (set new n r) ++ answerBytes ys (read k)) next;
+            ∙ sym (append-snoc (take n new) r (answerBytes ys (read o)))
+            ∙ ap (λ (q : List ℕ). q ++ answerBytes ys (read o)) (sym (take-suc-set new n r (omega (arith, g .long))))
+            ∙ ap (λ (j : ℕ). take j (set new n r) ++ answerBytes ys (read o)) next;
         rest = drop-set-lt (n + 1) new n r (omega arith) ∙ sym (drop-drop 1 n new) ∙ ap (drop 1) (g .rest) ∙ drop-drop 1 n old;
         done = g .done ++ stepsFor x (read m);
-        said = g .said ++ c .call .0;
-        chain = goesOn (g .chain) (c .call .1);
+        calls = further k m o (g .done) (stepsFor x (read m)) (g .calls) (c .call .1);
         steps =
             g .steps ∙ ap (λ (q : List Request). g .done ++ stepsOf q (read m)) turn
             ∙ ap (λ (t : State). g .done ++ (stepsFor x (read m) ++ stepsOf ys t)) state
-            ∙ sym (append-assoc (g .done) (stepsFor x (read m)) (stepsOf ys (read k)));
+            ∙ sym (append-assoc (g .done) (stepsFor x (read m)) (stepsOf ys (read o)));
       }
 
   -- nothing is left to do
-  ends : decode (length old - n) (drop at bytes) ≡ [] → Run l bytes old new m n
+  ends : decode (length old - n) (drop at bytes) ≡ [] → CarriedOut bytes old new k m n
   unfolding leavesAll answerBytes stepsOf
   ends e =
       let xs = decode (length old) bytes in
-      let given : answerBytes xs (fresh l) ≡ take n new = g .answers ∙ ap (λ (q : List Request). take n new ++ answerBytes q (read m)) e ∙ append-nil (take n new) in
-      let steps : stepsOf xs (fresh l) ≡ g .done = g .steps ∙ ap (λ (q : List Request). g .done ++ stepsOf q (read m)) e ∙ append-nil (g .done) in
-      let said : g .said ≡ Steps.answers (g .done) (fresh l) = reached (g .chain) .said in
-      let chain : Chain l m (stepsOf xs (fresh l)) (Steps.answers (stepsOf xs (fresh l)) (fresh l)) =
-      subst (λ (q : List Step). Chain l m q (Steps.answers q (fresh l))) (sym steps) (subst (Chain l m (g .done)) said (g .chain)) in
+      let given : answerBytes xs (read k) ≡ take n new = g .answers ∙ ap (λ (q : List Request). take n new ++ answerBytes q (read m)) e ∙ append-nil (take n new) in
+      let steps : stepsOf xs (read k) ≡ g .done = g .steps ∙ ap (λ (q : List Request). g .done ++ stepsOf q (read m)) e ∙ append-nil (g .done) in
       record {
         number = sym (g .number ∙ ap (λ (q : List Request). n + length q) e ∙ add-zero n);
         answers = sym (take-append-drop n new) ∙ ap₂ _++_ (sym given) (g .rest);
         memory = sym (g .memory ∙ ap (λ (q : List Request). leavesAll q m) e);
-        chain = chain;
-        demand = demanded chain;
+        calls = subst (GoesOn k m) (sym steps) (g .calls);
       }
 
   -- no whole step is left
-  pub ends-early : (size : ℕ) → size ≡ cond (whole (drop at bytes)) (sizeOf (drop at bytes)) 0 → size ≡ 0 → Run l bytes old new m n
+  pub ends-early : (size : ℕ) → size ≡ cond (whole (drop at bytes)) (sizeOf (drop at bytes)) 0 → size ≡ 0 → CarriedOut bytes old new k m n
   ends-early size is z = ends (decode-none (length old - n) (drop at bytes) (none-left bytes at size is z))
 
   -- no room is left
-  pub ends-full : length old ≤ n → Run l bytes old new m n
+  pub ends-full : length old ≤ n → CarriedOut bytes old new k m n
   unfolding decode
   ends-full h =
       let none : length old - n ≡ 0 = omega arith in
-      ends (ap (λ (k : ℕ). decode k (drop at bytes)) none)
+      ends (ap (λ (i : ℕ). decode i (drop at bytes)) none)
+
+-- ---- a run on a fresh record of limits that are bytes
+
+made : {a d : ℕ} {m n : Memory} {r : Answer} → Carried (start a d) (λ k. freshMemory a d) m n r → a < 256 → d < 256
+    → (answered r ≡ 0) × (n ≡ freshMemory a d)
+unfolding start errnoOf memoryAfter
+made {a} {d} {m} {n} {r} c ha hd =
+    let good : (leb a 255 && leb d 255) ≡ true = ap₂ _&&_ (le-leb a 255 (omega arith)) (le-leb d 255 (omega arith)) in
+    let s : State = fresh (record { adapter = a; domain = d }) in (
+      c .answer ∙ ap (λ (b : Bool). errnoOf (cond b (granted s) (refused Einval))) good,
+      c .bytes ∙ ap (λ (b : Bool). memoryAfter m (cond b (granted s) (refused Einval)) (freshMemory a d)) good,
+    )
+
+pub runs : {a d : ℕ} {k m n : Memory} {r : Answer} {bytes before after : List ℕ} {t : ℕ} → Carried (start a d) (λ k. freshMemory a d) k m r
+    → CarriedOut bytes before after m n t → a < 256 → d < 256 → Run (record { adapter = a; domain = d }) bytes before after n t
+unfolding GoesOn afterAll
+runs {a} {d} {k} {m} {n} {r} {bytes} {before} {after} {t} c h ha hd =
+    let l : Limits = record { adapter = a; domain = d } in
+    let f = made c ha hd in
+    let first = begins a d r c (f .0) in
+    let state : read m ≡ fresh l = reached first .state in
+    let xs = decode (length before) bytes in
+    let went = h .calls l [] [] first in
+    let steps : stepsOf xs (read m) ≡ stepsOf xs (fresh l) = ap (stepsOf xs) state in
+    let there : Chain l n (stepsOf xs (fresh l)) (went .0) = subst (λ (q : List Step). Chain l n q (went .0)) steps (went .1) in
+    let chain : Chain l n (stepsOf xs (fresh l)) (Steps.answers (stepsOf xs (fresh l)) (fresh l)) = subst (Chain l n (stepsOf xs (fresh l))) (reached there .said) there in
+    record {
+      number = h .number;
+      answers = h .answers ∙ ap (λ (s : State). answerBytes xs s ++ drop t before) state;
+      memory = h .memory ∙ ap (leavesAll xs) (f .1);
+      chain = chain;
+      demand = demanded chain;
+    }

@@ -61,16 +61,28 @@ pub record Stepped (x : Request) (m n : Memory) (r : ℕ) : Type 0 where
   pub memory : n ≡ leaves x m
   pub call : (rs : List ℕ) × Call m n (stepsFor x (read m)) rs
 
--- A run of the requests in `bytes` on a fresh record of limits l, with room for answers in `before`. It leaves the answers in
--- `after` and the record in the memory m. As many requests are carried out as there is room for answers.
-pub record Run (l : Limits) (bytes before after : List ℕ) (m : Memory) (r : ℕ) : Type 0 where
+-- a chain that comes to the memory m goes on to n, by calls that stand for these steps
+unfoldable pub GoesOn : Memory → Memory → List Step → Type 0
+GoesOn m n steps = (l : Limits) (xs : List Step) (rs : List ℕ) → Chain l m xs rs → (ss : List ℕ) × Chain l n (xs ++ steps) (rs ++ ss)
+
+-- The requests in `bytes` are carried out on the memory m, which is left as n, with room for answers in `before`, which is left
+-- as `after`: as many requests as there is room for answers.
+pub record CarriedOut (bytes before after : List ℕ) (m n : Memory) (r : ℕ) : Type 0 where
   -- the number of requests that were carried out
   pub number : r ≡ length (decode (length before) bytes)
   -- the answers, in order; the rest of the buffer is as it was
-  pub answers : after ≡ answerBytes (decode (length before) bytes) (fresh l) ++ drop r before
+  pub answers : after ≡ answerBytes (decode (length before) bytes) (read m) ++ drop r before
   -- the memory, every byte
+  pub memory : n ≡ leavesAll (decode (length before) bytes) m
+  -- it was left by calls
+  pub calls : GoesOn m n (stepsOf (decode (length before) bytes) (read m))
+
+-- A run of the requests in `bytes` on a fresh record of limits l, which is left in the memory m.
+pub record Run (l : Limits) (bytes before after : List ℕ) (m : Memory) (r : ℕ) : Type 0 where
+  pub number : r ≡ length (decode (length before) bytes)
+  pub answers : after ≡ answerBytes (decode (length before) bytes) (fresh l) ++ drop r before
   pub memory : m ≡ leavesAll (decode (length before) bytes) (freshMemory (l .adapter) (l .domain))
-  -- it was left by a chain of calls from a fresh record
+  -- the memory was left by a chain of calls from a fresh record
   pub chain : Chain l m (stepsOf (decode (length before) bytes) (fresh l)) (Steps.answers (stepsOf (decode (length before) bytes) (fresh l)) (fresh l))
   -- so demand 3 holds of it
   pub demand : Demanded l m (stepsOf (decode (length before) bytes) (fresh l)) (Steps.answers (stepsOf (decode (length before) bytes) (fresh l)) (fresh l))
@@ -79,6 +91,10 @@ pub record Run (l : Limits) (bytes before after : List ℕ) (m : Memory) (r : �
 abbrev pub StepsOnce : Lent → Lent → Lent → Lent → Lent → ℕ → Type 0
 StepsOnce bytes words words′ drivers drivers′ r =
     Stepped (requestOf (now bytes)) (memory (now words) (now drivers)) (memory (now words′) (now drivers′)) r
+
+abbrev pub CarriesOut : Lent → Lent → Lent → Lent → Lent → Lent → Lent → ℕ → Type 0
+CarriesOut steps before after words words′ drivers drivers′ r =
+    CarriedOut (now steps) (now before) (now after) (memory (now words) (now drivers)) (memory (now words′) (now drivers′)) r
 
 abbrev pub Runs : Apid → Apqi → Lent → Lent → Lent → Lent → Lent → ℕ → Type 0
 Runs a d steps before after words′ drivers′ r =

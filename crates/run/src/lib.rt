@@ -9,7 +9,7 @@ ghost use Prim.Native.Nat.{_≤_};
 ghost use lib.ListN.{length};
 ghost use Rattle.record.specs.Carried.{memory};
 ghost use Rattle.encoding.specs.Encoding.{move, sweep};
-ghost use Rattle.run.specs.Running.{Stepped, StepsOnce, Runs};
+ghost use Rattle.run.specs.Running.{Stepped, StepsOnce, CarriesOut, Runs};
 
 // Makes the lent memory a fresh record, carries out the requests, and writes a byte of answer for each. It answers how many
 // it carried out: those for which there is room for an answer.
@@ -24,6 +24,14 @@ pub fn run(
     ensures { λ r. ⌜ Runs adapter domain (steps .entry) (answers .entry) (answers .exit) (words .exit) (drivers .exit) r ⌝ }
 {
     setup::fresh(words, drivers, adapter.0 as u64, domain.0 as u64);
+    carry_out(words, drivers, steps, answers)
+}
+
+// Carries out the requests on a record as it is.
+pub fn carry_out(words: &mut Words, drivers: &mut Drivers, steps: &[u8], answers: &mut [u8]) -> usize
+    ensures { λ r. ⌜ CarriesOut (steps .entry) (answers .entry) (answers .exit)
+        (words .entry) (words .exit) (drivers .entry) (drivers .exit) r ⌝ }
+{
     let mut at = 0usize;
     let mut n = 0usize;
     while n < answers.len() {

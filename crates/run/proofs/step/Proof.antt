@@ -1,17 +1,15 @@
 -- `step` meets its contract: each operation is carried out by its function, which is a call.
 -- Assumes nothing.
 use Prim.Native.Nat.{_-_}
-use mathlib.Core.Path.{refl, _∙_, ap}
-use mathlib.Core.List.{List}
-use Prim.Native.Nat.{ℕ}
+use mathlib.Core.Path.{_≡_, refl}
 use lib.ListN.{length, take, drop}
 use denote.Ref.{now}
 use borrow.Author.Needs.{needs}
 use Rattle.record.specs.Carried.{memory}
 use Rattle.model.specs.Steps.{create, remove, openIt, closeIt, assign, unassign, setApmask, setAqmask, configure, rule}
 use Rattle.calls.specs.Calls.{effect, creates, removes, opens, closes, assigns, unassigns, setsApmask, setsAqmask, configures}
-use Rattle.encoding.specs.Encoding.{requestOf}
-use Rattle.run.proofs.Laws.{obeyed, is-move, payload}
+use Rattle.encoding.specs.Encoding.{sweep, requestOf}
+use Rattle.run.proofs.Laws.{obeyed, as-asked, is-move, payload}
 use Rattle.run.proofs.step.Statement.{statement}
 use Rattle.run.proofs.step.Tie as tie
 
@@ -119,10 +117,18 @@ returns-9 c =
     (configures (g .result) (f .result) (f .ensures))
 
 returns-10 : tie.Need-returns-10
-returns-10 c = ?
+unfolding requestOf
+returns-10 c =
+    let b = now (c .before .before .before .before .before .before .before .before .before .before .before .before .before .args .bytes) in
+    let n = c .before .number-of in
+    let e : requestOf b ≡ sweep (n .result) = rw (c .before .before .before .before .before .match .keys10, n .ensures, payload 2 b) in
+    as-asked e (c .make-sweep .ensures)
 
 returns-11 : tie.Need-returns-11
-returns-11 c = ?
+returns-11 c =
+    let n = c .before .before .before .before .before .match .rest in
+    let b = now (c .before .before .before .before .before .before .before .before .before .before .before .before .before .args .bytes) in
+    rw (is-move b (n .0 .0 .0 .0 .0 .0 .0 .0 .0 .1) (n .0 .0 .0 .0 .0 .0 .0 .0 .1) (n .0 .0 .0 .0 .0 .0 .0 .1) (n .0 .0 .0 .0 .0 .0 .1) (n .0 .0 .0 .0 .0 .1) (n .0 .0 .0 .0 .1) (n .0 .0 .0 .1) (n .0 .0 .1) (n .0 .1) (n .1)) (c .make-move .ensures)
 
 pub step-spec : {M : Type 1} → statement M
 step-spec =
