@@ -2,12 +2,14 @@
 // output, and answer how many bytes they handed over. What arrives there no contract can say.
 //
 // Rests on errno, mask, maskbytes and rules, and on the kit's io.
+use errno::Errno;
 use mask::Mask;
 use rules::Answer;
 ghost use mathlib.Core.Path.{_≡_};
 ghost use Prim.Native.Nat.{_<_, min};
 ghost use lib.ListN.{length};
 ghost use Rattle.io.specs.Digits.{Fewest};
+ghost use Rattle.errno.specs.Errno.{numberOf};
 ghost use Rattle.mask.specs.Bits.{bits, countBelow, numbers};
 ghost use Rattle.rules.specs.Commands.{answered};
 ghost use Rattle.print.specs.Hex.{hexDigit, hexOf};
@@ -72,24 +74,31 @@ pub fn decimal(n: u64) -> usize
     k
 }
 
-// The end of a line that says what a command answered: ok, or the name of the refusal. Answers the errno value.
+// The rest of a line that says what a command answered: ok, or the name of the refusal. Answers the errno value.
 pub fn answer(a: Answer) -> u8
     ensures { λ r. ⌜ r ≡ answered a ⌝ }
 {
     let r = rules::answer_number(a);
-    text(b": ");
     match a {
         Answer::Done => {
             text(b"ok");
         }
         Answer::Refused(e) => {
-            let name = errno::name(e);
-            let bytes = name.bytes;
-            first(&bytes, name.len);
+            name(e);
         }
     }
     text(b"\n");
     r
+}
+
+// The name of a refusal. Answers its errno value.
+pub fn name(e: Errno) -> u8
+    ensures { λ r. ⌜ r ≡ numberOf e ⌝ }
+{
+    let name = errno::name(e);
+    let bytes = name.bytes;
+    first(&bytes, name.len);
+    errno::number(e)
 }
 
 // A line of a label and the numbers of a mask's bits. Answers how many there are.

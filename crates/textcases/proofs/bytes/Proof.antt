@@ -1,22 +1,22 @@
--- `number_bytes` ends: places up to the text, bytes up to 256.
+-- `bytes` is safe and ends.
 -- Assumes nothing.
-use Prim.Native.Nat.{_-_, _≤_}
+use Prim.Native.Nat.{_-_}
 use lib.ListN.{length}
 use borrow.Author.Needs.{needs}
-use Rattle.textcases.proofs.number_bytes.Statement.{statement}
-use Rattle.textcases.proofs.number_bytes.Tie as tie
+use Rattle.textcases.proofs.bytes.Statement.{statement}
+use Rattle.textcases.proofs.bytes.Tie as tie
 
 abbrev Inv-loop2 : tie.InvT-loop2
-Inv-loop2 t place b₀ b = b ≤ 256
+Inv-loop2 how t place b₀ b = Unit {0}
 
 abbrev μ-loop2 : tie.MeasureT-loop2
-μ-loop2 t place b₀ b = 256 - b
+μ-loop2 how t place b₀ b = 256 - b
 
 abbrev Inv-loop : tie.InvT-loop
-Inv-loop t place₀ place = place ≤ length t
+Inv-loop how t place₀ place = Unit {0}
 
 abbrev μ-loop : tie.MeasureT-loop
-μ-loop t place₀ place = length t - place
+μ-loop how t place₀ place = length t - place
 
 loop-holds : tie.Need-loop-holds Inv-loop2 μ-loop2 Inv-loop μ-loop
 loop-holds c = search needs
@@ -24,11 +24,8 @@ loop-holds c = search needs
 loop2-holds : tie.Need-loop2-holds Inv-loop2 μ-loop2 Inv-loop μ-loop
 loop2-holds c = search needs
 
-changed-requires : tie.Need-changed-requires Inv-loop2 μ-loop2 Inv-loop μ-loop
-changed-requires c κs = search needs
-
-good-number-requires : tie.Need-good-number-requires Inv-loop2 μ-loop2 Inv-loop μ-loop
-good-number-requires c κs = search needs
+changed-byte-requires : tie.Need-changed-byte-requires Inv-loop2 μ-loop2 Inv-loop μ-loop
+changed-byte-requires c κs = search needs
 
 add-b : tie.Need-add-b Inv-loop2 μ-loop2 Inv-loop μ-loop
 add-b c = search needs
@@ -51,8 +48,8 @@ loop-again c = search needs
 returns : tie.Need-returns Inv-loop2 μ-loop2 Inv-loop μ-loop
 returns c = search needs
 
-pub number-bytes-spec : {M : Type 1} → statement M
-number-bytes-spec =
+pub bytes-spec : {M : Type 1} → statement M
+bytes-spec =
     tie.close
     (tie.spec
     Inv-loop2
@@ -61,8 +58,7 @@ number-bytes-spec =
     μ-loop
     loop-holds
     loop2-holds
-    changed-requires
-    good-number-requires
+    changed-byte-requires
     add-b
     loop2-less
     loop2-again

@@ -1,14 +1,14 @@
--- `good_mask` is safe: the array has 16 bytes.
+-- `mask_of` is safe: the array has 24 bytes.
 -- Assumes nothing.
 use native.Mathlib.Omega.{arith}
 use mathlib.Core.Path.{sym}
 use lib.Seq.{length-take-le}
 use borrow.Author.Needs.{needs}
-use Rattle.textcases.proofs.good_mask.Statement.{statement}
-use Rattle.textcases.proofs.good_mask.Tie as tie
+use Rattle.textcases.proofs.mask_of.Statement.{statement}
+use Rattle.textcases.proofs.mask_of.Tie as tie
 
 array-share-prefix-s : tie.Need-array-share-prefix-s
-array-share-prefix-s c = omega (arith, c .before .good .0)
+array-share-prefix-s c = search needs
 
 slice-aggregate-parse : tie.Need-slice-aggregate-parse
 slice-aggregate-parse c = sym (length-take-le _ _ (omega (arith, c .before .before .good .0)))
@@ -19,23 +19,23 @@ full-requires c κs = search needs
 parse-requires : tie.Need-parse-requires
 parse-requires c κs = search needs
 
-mask-line-requires : tie.Need-mask-line-requires
-mask-line-requires c κs = search needs
-
 returns : tie.Need-returns
 returns c = search needs
+
+full-requires-2 : tie.Need-full-requires-2
+full-requires-2 c κs = search needs
 
 returns-2 : tie.Need-returns-2
 returns-2 c = search needs
 
-pub good-mask-spec : {M : Type 1} → statement M
-good-mask-spec =
+pub mask-of-spec : {M : Type 1} → statement M
+mask-of-spec =
     tie.close
     (tie.spec
     array-share-prefix-s
     slice-aggregate-parse
     full-requires
     parse-requires
-    mask-line-requires
     returns
+    full-requires-2
     returns-2)
