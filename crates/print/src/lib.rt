@@ -74,11 +74,12 @@ pub fn decimal(n: u64) -> usize
     k
 }
 
-// The rest of a line that says what a command answered: ok, or the name of the refusal. Answers the errno value.
-pub fn answer(a: Answer) -> u8
+// A line of a label and what a command answered: ok, or the name of the refusal. Answers the errno value.
+pub fn answer(label: &[u8], a: Answer) -> u8
     ensures { λ r. ⌜ r ≡ answered a ⌝ }
 {
     let r = rules::answer_number(a);
+    text(label);
     match a {
         Answer::Done => {
             text(b"ok");
