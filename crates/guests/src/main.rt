@@ -17,32 +17,29 @@ fn main() {
     prepare(&mut words, &mut drivers);
     each(
         &mut words,
-        b"1 create  ;\
+        &drivers,
+        b"1 create guest 1;\
         1 adapter 5;\
         1 adapter 6;\
-        1 domain  4;\
-        1 domain  0xab;\
-        1 open    ;\
-        2 create  ;\
+        1 domain 4;\
+        1 domain 0xab;\
+        1 open guest 1;\
+        2 create guest 2;\
         2 adapter 5;\
-        2 domain  0x47;\
-        2 domain  0xff;\
-        2 open    ;\
-        3 create  ;\
+        2 domain 0x47;\
+        2 domain 0xff;\
+        2 open guest 2;\
+        3 create guest 3;\
         3 adapter 6;\
-        3 domain  0x47;\
-        3 domain  0xff;\
-        3 open    ;",
-    );
-    list(&words, &drivers, 1);
-    list(&words, &drivers, 2);
-    list(&words, &drivers, 3);
-    // the rehearsal guest is number 9, and adapter 5 with domain 4 is guest 1's
-    each(
-        &mut words,
-        b"9 create  ;\
+        3 domain 0x47;\
+        3 domain 0xff;\
+        3 open guest 3;\
+        1 matrix of guest 1;\
+        2 matrix of guest 2;\
+        3 matrix of guest 3;\
+        9 create rehearsal;\
         9 adapter 5;\
-        9 domain  4;",
+        9 domain 4;",
     );
 }
 
@@ -75,55 +72,41 @@ fn partition() -> Configuration {
     }
 }
 
-// A row is a guest, what is done, and from its tenth byte on the adapter or the domain.
-fn each(words: &mut Words, rows: &[u8]) {
+// A row is a guest's number, and the words that are printed: the first says what is done. The rehearsal guest is number
+// 9, and what it asks for at the end is guest 1's.
+fn each(words: &mut Words, drivers: &Drivers, rows: &[u8]) {
     let mut start = 0usize;
     let mut i = 0usize;
     while i < rows.len() {
         if rows[i] == b';' {
-            row(words, &rows[start..i]);
+            row(words, drivers, &rows[start..i]);
             start = i + 1;
         }
         i += 1;
     }
 }
 
-fn row(words: &mut Words, row: &[u8]) {
+// An adapter's number starts at byte 10 of its row, a domain's at byte 9.
+fn row(words: &mut Words, drivers: &Drivers, row: &[u8]) {
     if 10 <= row.len() {
-        step(words, (row[0] % 16) as u64, row[2], &row[10..]);
+        let id = Id {
+            hi: 0,
+            lo: (row[0] % 16) as u64,
+        };
+        if row[2] == b'm' {
+            list(words, drivers, &row[2..], id);
+        } else {
+            answer(&row[2..], step(words, row[2], id, &row[10..], &row[9..]));
+        }
     }
 }
 
-fn step(words: &mut Words, n: u64, what: u8, text: &[u8]) {
+fn step(words: &mut Words, what: u8, id: Id, adapter: &[u8], domain: &[u8]) -> Answer {
     match what {
-        b'a' => assign(
-            b"adapter ",
-            text,
-            assign::assign(words, Kind::Adapter, id(n), text),
-        ),
-        b'd' => assign(
-            b"domain ",
-            text,
-            assign::assign(words, Kind::Domain, id(n), text),
-        ),
-        b'c' => device(b"create ", n, devices::create(words, id(n))),
-        _ => device(b"open ", n, devices::open(words, id(n))),
-    }
-}
-
-fn assign(label: &[u8], text: &[u8], a: Answer) {
-    print::text(label);
-    answer(text, a);
-}
-
-fn device(label: &[u8], n: u64, a: Answer) {
-    print::text(label);
-    if n == 9 {
-        answer(b"rehearsal", a);
-    } else {
-        print::text(b"guest ");
-        print::decimal(n);
-        answer(b"", a);
+        b'a' => assign::assign(words, Kind::Adapter, id, adapter),
+        b'd' => assign::assign(words, Kind::Domain, id, domain),
+        b'c' => devices::create(words, id),
+        _ => devices::open(words, id),
     }
 }
 
@@ -141,17 +124,14 @@ fn answer(label: &[u8], a: Answer) {
     }
 }
 
-fn list(words: &Words, drivers: &Drivers, n: u64) {
-    print::number(b"matrix of guest ", n);
+fn list(words: &Words, drivers: &Drivers, label: &[u8], id: Id) {
+    print::text(label);
     let mut buf = [0u8; 64];
-    let r = listing::list(words, drivers, id(n), Matrix::Guest, 0, &mut buf);
+    let r = listing::list(words, drivers, id, Matrix::Guest, 0, &mut buf);
     lines(buf, r.written);
 }
 
 fn lines(buf: [u8; 64], n: usize) {
+    print::text(b"\n");
     print::first(&buf, n);
-}
-
-fn id(n: u64) -> Id {
-    Id { hi: 0, lo: n }
 }

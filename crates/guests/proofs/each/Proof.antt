@@ -8,10 +8,10 @@ use Rattle.guests.proofs.each.Statement.{statement}
 use Rattle.guests.proofs.each.Tie as tie
 
 abbrev Inv-loop : tie.InvT-loop
-Inv-loop words₀ rows start₀ i₀ words start i = (start ≤ i) × (i ≤ length rows)
+Inv-loop words₀ drivers rows start₀ i₀ words start i = (start ≤ i) × (i ≤ length rows)
 
 abbrev μ-loop : tie.MeasureT-loop
-μ-loop words₀ rows start₀ i₀ words start i = length rows - i
+μ-loop words₀ drivers rows start₀ i₀ words start i = length rows - i
 
 loop-holds : tie.Need-loop-holds Inv-loop μ-loop
 loop-holds c = search needs
