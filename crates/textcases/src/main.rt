@@ -5,30 +5,25 @@ use mask::Mask;
 use masktext::MaskRead;
 use number::Number;
 
-// Each text stands between the letter that says how it is read and a semicolon.
+// A text stands between the letter that says how it is read and a semicolon: n as a number; e and f as a mask, on the
+// empty and on the full one; l, h and i each of its starts, as a number (with a newline too), as a hex mask and as an
+// item; N and M with every byte at every place, as a number and as a mask: a line for each text that is good.
 fn main() {
-    // a number: the worked examples of the papers, and the edges of the rule
-    each(b"n4;n0x5;n020;n0x8;n0107;n71\n;n0x47;n0;n0\n;n00;n256;n65535;n65536;n0xffff;n0xFfFf;");
     each(
-        b"n0x10000;n0177777;n0200000;n08;n0x;n0X5;nx5;n+5;n-5;n 5;n5 ;n;n\n;n5\n\n;n\n5;n5a;n0xg;",
+        b"n4;n0x5;n020;n0x8;n0107;n71\n;n0x47;n0;n0\n;n00;n256;n65535;n65536;n0xffff;n0xFfFf;\
+        n0x10000;n0177777;n0200000;n08;n0x;n0X5;nx5;n+5;n-5;n 5;n5 ;n;n\n;n5\n\n;n\n5;n5a;n0xg;\
+        e0x41;e0x7d;f0x41;e0xffff;e0x40;\
+        e0x7dffffffffffffffffffffffffffffffffffffffffffffffffffffffffffffff;\
+        e0x7DFFFFFFFFFFFFFFFFFFFFFFFFFFFFFFFFFFFFFFFFFFFFFFFFFFFFFFFFFFFFFF\n;\
+        e+0;f-13;e+0x41;f-0xff;e+0,-6,+0x47,-0xf0;f+0,-6,+0x47,-0xf0;f-5,-6;\
+        f-4,-0x47,-0xab,-0xff\n;e+5,-5,+5;e+255;e+256;e+0377;e+0400;\
+        f;f\n;f0x;f0xfg;f0X41;f5;f+;f+5,;f,+5;f+5,,+6;f+5\n,+6;f+5,+6\n\n;f+ 5;f+5 +6;f++5;f+08;\
+        l000000000000000000000;l111111111111111111111;\
+        h0xccccccccccccccccccccccccccccccccccccccccccccccccccccccccccccccccccccc;\
+        i+000000000000000000000;\
+        N7;N10\n;N0x1f;N0107;\
+        M0x4;M0xa1\n;M+1;M-0x9,+07\n;",
     );
-    // a mask, on the empty mask (e) or on the full one (f)
-    each(b"e0x41;e0x7d;f0x41;e0xffff;e0x40;");
-    each(b"e0x7dffffffffffffffffffffffffffffffffffffffffffffffffffffffffffffff;");
-    each(b"e0x7DFFFFFFFFFFFFFFFFFFFFFFFFFFFFFFFFFFFFFFFFFFFFFFFFFFFFFFFFFFFFFF\n;");
-    each(b"e+0;f-13;e+0x41;f-0xff;e+0,-6,+0x47,-0xf0;f+0,-6,+0x47,-0xf0;f-5,-6;");
-    each(b"f-4,-0x47,-0xab,-0xff\n;e+5,-5,+5;e+255;e+256;e+0377;e+0400;");
-    // texts that are no mask
-    each(
-        b"f;f\n;f0x;f0xfg;f0X41;f5;f+;f+5,;f,+5;f+5,,+6;f+5\n,+6;f+5,+6\n\n;f+ 5;f+5 +6;f++5;f+08;",
-    );
-    // each shorter start of a digit repeated, with and without a newline; of a hex mask; of an item
-    each(b"l000000000000000000000;l111111111111111111111;");
-    each(b"h0xccccccccccccccccccccccccccccccccccccccccccccccccccccccccccccccccccccc;");
-    each(b"i+000000000000000000000;");
-    // every byte at every place of a number, and of a mask on the full one: a line for each text that is good
-    each(b"N7;N10\n;N0x1f;N0107;");
-    each(b"M0x4;M0xa1\n;M+1;M-0x9,+07\n;");
 }
 
 fn each(t: &[u8]) {
@@ -36,16 +31,12 @@ fn each(t: &[u8]) {
     let mut i = 0usize;
     while i < t.len() {
         if t[i] == b';' {
-            row(&t[start..i]);
+            if start < i {
+                read(t[start], &t[start + 1..i]);
+            }
             start = i + 1;
         }
         i += 1;
-    }
-}
-
-fn row(s: &[u8]) {
-    if 0 < s.len() {
-        read(s[0], &s[1..]);
     }
 }
 
@@ -62,10 +53,14 @@ fn read(how: u8, s: &[u8]) {
 }
 
 fn number(s: &[u8]) {
-    print::text(b"number ");
+    label(b"number ", s);
+    number_outcome(number::parse(s));
+}
+
+fn label(word: &[u8], s: &[u8]) {
+    print::text(word);
     print::escaped(s);
     print::text(b": ");
-    number_outcome(number::parse(s));
 }
 
 fn number_outcome(n: Number) {
@@ -80,9 +75,7 @@ fn number_outcome(n: Number) {
 }
 
 fn mask(s: &[u8], old: Mask) {
-    print::text(b"mask ");
-    print::escaped(s);
-    print::text(b": ");
+    label(b"mask ", s);
     mask_outcome(masktext::parse(s, old));
 }
 

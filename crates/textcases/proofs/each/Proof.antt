@@ -1,4 +1,4 @@
--- `each` is safe and ends: a text starts at or before the index, which stays within the table.
+-- `each` is safe and ends: a row starts at or before the index, which stays within the table.
 -- Assumes nothing.
 use Prim.Native.Nat.{_-_, _≤_}
 use mathlib.Core.Logic.{⊎-elim}
@@ -19,17 +19,23 @@ loop-holds c = search needs
 shared-slice-read-if1 : tie.Need-shared-slice-read-if1 Inv-loop μ-loop
 shared-slice-read-if1 c = search needs
 
-sub-row : tie.Need-sub-row Inv-loop μ-loop
-sub-row c = search needs
+shared-slice-read-read : tie.Need-shared-slice-read-read Inv-loop μ-loop
+shared-slice-read-read c = search needs
 
-part-row-start : tie.Need-part-row-start Inv-loop μ-loop
-part-row-start c = search needs
+add-read : tie.Need-add-read Inv-loop μ-loop
+add-read c = search needs
 
-part-row-end : tie.Need-part-row-end Inv-loop μ-loop
-part-row-end c = search needs
+sub-read : tie.Need-sub-read Inv-loop μ-loop
+sub-read c = search needs
 
-row-requires : tie.Need-row-requires Inv-loop μ-loop
-row-requires c κs = search needs
+part-read-start : tie.Need-part-read-start Inv-loop μ-loop
+part-read-start c = search needs
+
+part-read-end : tie.Need-part-read-end Inv-loop μ-loop
+part-read-end c = search needs
+
+read-requires : tie.Need-read-requires Inv-loop μ-loop
+read-requires c κs = search needs
 
 add-start : tie.Need-add-start Inv-loop μ-loop
 add-start c = search needs
@@ -54,10 +60,12 @@ each-spec =
     μ-loop
     loop-holds
     shared-slice-read-if1
-    sub-row
-    part-row-start
-    part-row-end
-    row-requires
+    shared-slice-read-read
+    add-read
+    sub-read
+    part-read-start
+    part-read-end
+    read-requires
     add-start
     add-i
     loop-less
