@@ -11,7 +11,7 @@ use std::time::{Duration, Instant};
 
 const WORDS: usize = 406;
 const QUEUES: usize = 65_536;
-const PLACES: usize = 8;
+const SLOTS: usize = 8;
 const CONFIG_BYTES: usize = 352;
 const NAMES: [(u8, &str); 8] = [
     (2, "ENOENT"),
@@ -174,11 +174,12 @@ struct Record {
     aqmask: Set,
     configured: [Set; 3],
     types: [u64; 256],
-    devices: [Device; PLACES],
+    devices: [Device; SLOTS],
     drivers: Vec<u8>,
 }
 
-/// What a listing gives: the answer, the bytes and the next place.
+/// What a listing gives: the answer, the bytes and the next place. A refused one writes neither of the two numbers, and
+/// its caller stays where it was.
 struct Listing {
     answer: u8,
     bytes: Vec<u8>,
@@ -193,7 +194,7 @@ impl Record {
             aqmask: Set::ALL,
             configured: [Set::NONE; 3],
             types: [0; 256],
-            devices: [NO_DEVICE; PLACES],
+            devices: [NO_DEVICE; SLOTS],
             drivers: vec![0; QUEUES],
         }
     }
@@ -206,7 +207,7 @@ impl Record {
         record.aqmask = set(6);
         record.configured = [set(10), set(14), set(18)];
         record.types.copy_from_slice(&words[22..278]);
-        for p in 0..PLACES {
+        for p in 0..SLOTS {
             let at = 278 + 16 * p;
             let mut id = [0; 16];
             id[..8].copy_from_slice(&words[at + 2].to_be_bytes());
@@ -247,7 +248,7 @@ impl Record {
     }
 
     fn find(&self, id: &Id) -> Option<usize> {
-        (0..PLACES).find(|&p| self.devices[p].present != 0 && self.devices[p].id == *id)
+        (0..SLOTS).find(|&p| self.devices[p].present != 0 && self.devices[p].id == *id)
     }
 
     fn reserved(&self, apid: usize, apqi: usize) -> bool {
@@ -352,7 +353,7 @@ impl Record {
         if new.iter().any(|&(a, d)| self.reserved(a, d)) {
             return 99;
         }
-        let elsewhere = |a, d| (0..PLACES).any(|o| o != p && self.devices[o].has_queue(a, d));
+        let elsewhere = |a, d| (0..SLOTS).any(|o| o != p && self.devices[o].has_queue(a, d));
         if new.iter().any(|&(a, d)| elsewhere(a, d)) {
             return 98;
         }
@@ -465,7 +466,7 @@ impl Record {
         (used, self.remaining() != 0)
     }
 
-    /// The guest masks of the device at a place.
+    /// The guest masks of the device in a slot.
     fn guest(&self, p: usize) -> [Set; 3] {
         let assigned = &self.devices[p].assigned;
         let mut guest = [Set::NONE; 3];
@@ -856,8 +857,9 @@ impl Run {
         let mut buffer = self.lend_junk(length);
         let mut expected = buffer.inside().to_vec();
         let random = &mut self.random;
-        let mut written = Lent::new(&[random.next() as usize], || random.next() as usize);
-        let mut next = Lent::new(&[random.next() as usize], || random.next() as usize);
+        let before = [random.next() as usize, random.next() as usize];
+        let mut written = Lent::new(&before[..1], || random.next() as usize);
+        let mut next = Lent::new(&before[1..], || random.next() as usize);
         let got = unsafe {
             library::zk_list(
                 self.words.lend(),
@@ -877,8 +879,9 @@ impl Run {
         expected[..listing.bytes.len()].copy_from_slice(&listing.bytes);
         equal("answer", got, listing.answer).map_err(what)?;
         buffer.compare("byte", &expected).map_err(what)?;
-        written.compare("written", &[listing.bytes.len()]).map_err(what)?;
-        next.compare("next", &[listing.next]).map_err(what)?;
+        let after = if got == 0 { [listing.bytes.len(), listing.next] } else { before };
+        written.compare("written", &after[..1]).map_err(what)?;
+        next.compare("next", &after[1..]).map_err(what)?;
         self.view_refused[got as usize] += 1;
         self.compare_memory()?;
         Ok((listing.bytes.len(), listing.next))
@@ -898,12 +901,18 @@ impl Run {
     fn view_name(&mut self, value: u8) -> Result<(), String> {
         self.views += 1;
         let mut lent = self.lend_junk(14);
+        let before = lent.inside().to_vec();
         let got = unsafe { library::zk_errno_name(value, lent.lend()) };
-        let name = NAMES.iter().find(|(v, _)| *v == value).map_or("", |(_, name)| name);
-        let mut padded = name.as_bytes().to_vec();
-        padded.resize(14, 0);
-        equal("errno name: length", got, name.len())?;
-        lent.compare("errno name: byte", &padded)
+        let (length, bytes) = match NAMES.iter().find(|(v, _)| *v == value) {
+            None => (0, before),
+            Some((_, name)) => {
+                let mut padded = name.as_bytes().to_vec();
+                padded.resize(14, 0);
+                (name.len(), padded)
+            }
+        };
+        equal("errno name: length", got, length)?;
+        lent.compare("errno name: byte", &bytes)
     }
 
     fn list_randomly(&mut self, id: &Id, pool: &Pool, matrix: u8) -> Result<(), String> {
@@ -1031,9 +1040,9 @@ impl Pool {
 
     /// An id, mostly one that a device has.
     fn id(&self, random: &mut Random, record: &Record) -> Id {
-        let place = random.below(PLACES as u64) as usize;
-        if record.devices[place].present != 0 && !random.one_in(8) {
-            return record.devices[place].id;
+        let slot = random.below(SLOTS as u64) as usize;
+        if record.devices[slot].present != 0 && !random.one_in(8) {
+            return record.devices[slot].id;
         }
         *random.pick(&self.ids)
     }
@@ -1329,7 +1338,7 @@ fn any_record(random: &mut Random, pool: &Pool) -> (Vec<u64>, Vec<u8>) {
         });
     }
     let crowd = *random.pick(&[3, 6, 12]);
-    for _ in 0..PLACES {
+    for _ in 0..SLOTS {
         // of few ids some are equal
         let (hi, lo) = halves(&pool.ids[random.below(crowd.min(pool.ids.len() as u64)) as usize]);
         words.extend([flag(random), flag(random), hi, lo]);
@@ -1523,6 +1532,20 @@ impl Run {
                 equal("a limit above 255", answer, 22)?;
             }
         }
+        // every pair of limits, each over what the one before left, and at times over any contents
+        for adapter in 0..256 {
+            let pool = Pool::new(&mut self.random);
+            let (words, drivers) = any_record(&mut self.random, &pool);
+            self.hand_in(&words, &drivers);
+            for domain in 0..256 {
+                let answer = self.call(&Call::Fresh(adapter, domain))?;
+                equal("a pair of limits", answer, 0)?;
+            }
+            for refused in [Call::Fresh(adapter, 256), Call::Fresh(256, adapter)] {
+                let answer = self.call(&refused)?;
+                equal("a limit above 255", answer, 22)?;
+            }
+        }
         for adapter in 0..256 {
             for domain in [adapter, 255 - adapter, self.random.below(256), self.random.below(256)] {
                 let highest = [adapter, domain, domain];
@@ -1623,6 +1646,24 @@ impl Run {
         for (apid, apqi, reserved) in [(15, 1, true), (16, 1, false), (15, 0, false)] {
             equal("setting: reserved", self.record.reserved(apid, apqi), reserved)?;
         }
+        gives!(0, Call::Create(one));
+        gives!(0, Call::Create(two));
+        gives!(0, Call::Assign(one, 0, text("15")));
+        gives!(99, Call::Assign(one, 1, text("1")));
+        gives!(0, Call::Assign(one, 1, text("0")));
+        gives!(0, Call::Assign(two, 0, text("16")));
+        gives!(0, Call::Assign(two, 1, text("1")));
+        let mut bytes = vec![0; CONFIG_BYTES];
+        bytes[1] = 0x01;
+        bytes[2] = 0x80;
+        bytes[32] = 0xc0;
+        bytes[96..].fill(10);
+        gives!(0, Call::Configure(bytes));
+        for (apid, apqi, bound) in [(15, 1, 2), (16, 1, 3), (15, 0, 3)] {
+            gives!(bound, Call::Move(apid, apqi));
+        }
+        gives!(0, Call::Remove(one));
+        gives!(0, Call::Remove(two));
 
         // 5 and 6
         gives!(0, Call::Apmask(text("0x0")));

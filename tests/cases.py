@@ -1,180 +1,122 @@
 #!/usr/bin/env python3
-"""What crates/cases must print, by the Python model of tests/service.py. `make expected` compares it with
-crates/cases/stdout."""
+"""What crates/cases must print, by the Python model of tests/service.py. A row of the table is what the program does and
+the label that it prints. `make expected` compares the output with crates/cases/stdout."""
 from service import NAMES, Service
+from textcases import EMPTY, mask
 
+ROWS = r"""
+fresh 256 255|fresh 255 256|fresh 63 15
+configure 10 +63 +15 +15|configure 10 +64 +15 +15|configure 10 +63 +16 +15|configure 10 +63 +15 +16
+create 1|assign 1 adapter 63|assign 1 adapter 64|assign 1 domain 16|assign 1 control 16|unassign 1 domain 16
+setting 14
+fresh 255 255|create 1|create 2|create 3|create 4|create 5|create 6|create 7|create 8|create 9|create 1
+remove 4|create 9|slot 9|remove 6|remove 2|create 10|slot 10|remove 2|slot 2
+close 1|open 1|open 1|remove 1|close 1|remove 1|open 1|close 1
+assign 1 adapter 08|assign 1 adapter 256|assign 3 adapter 256|assign 3 adapter 0xff\n|assign 3 adapter 255
+unassign 3 adapter 0377|unassign 3 adapter 0377|unassign 3 control 256|unassign 1 control 256|unassign 1 control x
+apmask 0x|aqmask +1,
+setting 7
+fresh 255 255|create 1|assign 1 adapter 5|assign 1 domain 4
+setting 11
+apmask -5\n|assign 1 domain 4|apmask +5|aqmask -4|apmask +5|aqmask +4|apmask -5
+setting 5
+fresh 255 255|apmask 0x0|aqmask 0x0|create 1|create 2
+assign 1 adapter 1|assign 1 adapter 2|assign 1 domain 5|assign 1 domain 6
+assign 2 adapter 1|assign 2 adapter 2|assign 2 domain 7
+setting 6
+assign 2 domain 6|assign 2 control 6|assign 1 control 6|unassign 2 adapter 1|unassign 2 adapter 2|assign 2 domain 6
+assign 2 adapter 2|remove 1|assign 2 adapter 2
+setting 12
+fresh 255 255|apmask 0x04|aqmask 0x02|create 1|create 2|assign 1 adapter 5|assign 1 domain 4
+assign 2 domain 4|assign 2 domain 6|assign 2 adapter 5|unassign 2 domain 6|assign 2 adapter 5
+setting 13
+fresh 255 255|configure 10 +5 +4 0x0|target 5 4|move 5 4|apmask -5|target 5 4
+remaining|sweep 0|move 5 4|remaining|move 5 4|remaining|move 5 4|move 7 4
+configure 9 +5 +4 0x0|target 5 4|move 5 4|target 4 5
+budgets
+fresh 255 255|configure 10 +5,+6 +4,+171 +71|sweep 0|sweep 3|sweep 4294967295|sweep 5
+apmask -5,-6|remaining|sweep 5|move 6 4|sweep 131072|remaining
+setting 9
+fresh 255 255|apmask -5,-6|configure 10 +5,+6 +4,+171 +71|create 1
+assign 1 adapter 5|assign 1 adapter 6|assign 1 domain 4|assign 1 domain 0xab|assign 1 control 71|assign 1 control 72
+masks 1 assigned|masks 1 guest|sweep 3|masks 1 guest|list 1 assigned 0 32|list 1 guest 0 32|lines 1 assigned|lines 1 guest
+usable 1 5 171|open 1|usable 1 5 171|usable 1 6 4|usable 1 5 5|usable 2 5 171
+setting 10
+configure 10 +5,+6 +4 +71|masks 1 guest
+a sweep
+configure 10 +5,+6 +4,+171 +71|masks 1 guest|move 5 171|masks 1 guest|usable 1 6 4
+sweep 131072|masks 1 guest|usable 1 6 4|masks 2 guest
+the listing of 01
+lines 1 guest|list 1 guest 0 32|list 1 guest 0 20|list 1 guest 1452 20|list 1 guest 1452 16|list 1 guest 0 7|list 2 guest 0 7
+list 1 guest 65536 32|list 1 guest 65535 32|list 1 guest 18446744073709551615 32
+"""
+ROWS = [row for line in ROWS.strip().split("\n") for row in line.split("|")]
 lines = []
+s = None
 
 
-def say(label, errno):
-    lines.append(f"{label}: {NAMES.get(errno, 'ok')}")
+def bits(text):
+    return {i for i, c in enumerate(mask(text.encode(), EMPTY)) if c == "1"}
+
+
+def name(errno):
+    return NAMES.get(errno, "ok")
 
 
 def fresh(adapter, domain):
-    bad = adapter > 255 or domain > 255
-    say(f"fresh {adapter} {domain}", 22 if bad else 0)
-    return None if bad else Service(adapter, domain)
+    global s
+    if int(adapter) > 255 or int(domain) > 255:
+        return name(22)
+    s = Service(int(adapter), int(domain))
+    return "ok"
 
 
-fresh(256, 255)
-fresh(255, 256)
-s = fresh(255, 255)
-for n in range(1, 9):
-    say("create", s.create(n))
-say("create 9", s.create(9))
-say("create 1", s.create(1))
-say("remove 4", s.remove(4))
-say("create 9", s.create(9))
-say("create 10", s.create(10))
-say("remove 10", s.remove(10))
-for n in range(3, 10):
-    say("remove", s.remove(n))
-for word, n in (("close", 1), ("open", 1), ("open", 1), ("remove", 1), ("close", 1), ("open", 3), ("close", 3)):
-    say(f"{word} {n}", getattr(s, word)(n))
+def shown(n, which):
+    v = s.find(n)
+    if not v:
+        return name(2)
+    sets = s.matrix(v, which)
+    return "ok" + "".join("\n " + word + "".join(f" {k}" for k in sorted(b)) for word, b in zip(("adapters", "domains", "controls"), sets))
 
 
-def assign(n, kind, text, shown=None):
-    say(f"assign {n} {kind} {shown or text.decode()}", s.assign(kind, n, text))
+def listed(n, which, place, room):
+    errno, written, after, buffer = s.list(n, which, int(place), b"#" * int(room))
+    numbers = "" if errno else f"\n{written} {after}"
+    return name(errno) + numbers + "\n" + (buffer + b"#" * (32 - int(room))).decode()
 
 
-def unassign(n, kind, text):
-    say(f"unassign {n} {kind} {text.decode()}", s.unassign(kind, n, text))
+def swept(budget):
+    used, more = s.sweep(int(budget))
+    return f"{used}\nmoves remain: {'yes' if more else 'no'}"
 
 
-def ap(text):
-    say(f"apmask {text.decode().strip()}", s.set_mask("ap", text))
-
-
-def aq(text):
-    say(f"aqmask {text.decode()}", s.set_mask("aq", text))
-
-
-assign(3, "adapter", b"08")
-assign(3, "adapter", b"256")
-assign(1, "adapter", b"256")
-assign(1, "adapter", b"0xff\n", "0xff")
-assign(1, "adapter", b"255")
-unassign(1, "adapter", b"0377")
-unassign(1, "adapter", b"0377")
-unassign(1, "control", b"256")
-unassign(3, "control", b"256")
-unassign(3, "control", b"x")
-ap(b"0x")
-aq(b"+1,")
-
-assign(1, "adapter", b"5")
-assign(1, "domain", b"4")
-ap(b"-5,-6\n")
-assign(1, "domain", b"4")
-ap(b"+5")
-aq(b"-4,-0x47,-0xab,-0xff")
-ap(b"+5")
-aq(b"+4")
-ap(b"-5")
-
-assign(2, "adapter", b"5")
-assign(2, "domain", b"4")
-assign(2, "domain", b"0x47")
-assign(1, "domain", b"0x47")
-assign(1, "control", b"0x47")
-assign(2, "control", b"0x47")
-unassign(2, "domain", b"0x47")
-unassign(2, "adapter", b"5")
-assign(2, "domain", b"4")
-assign(2, "domain", b"6")
-ap(b"+6")
-assign(2, "adapter", b"6")
-assign(2, "adapter", b"5")
-ap(b"-6")
-say("remove 2", s.remove(2))
-assign(1, "adapter", b"6")
-assign(1, "domain", b"0xab")
-
-t = fresh(63, 15)
-TYPES = [10] * 256
-say("configure 63 x 15", t.configure({63}, {15}, {15}, TYPES))
-say("configure 64 x 15", t.configure({64}, {15}, {15}, TYPES))
-say("configure 63 x 16", t.configure({63}, {16}, {15}, TYPES))
-say("configure 63 x 15, 16", t.configure({63}, {15}, {16}, TYPES))
-say("configure", s.configure({5, 6}, {4, 171}, {71}, TYPES))
-
-
-def move(a, d):
-    lines.append(f"move {a} {d}: {s.move(a, d)}")
-
-
-def remaining():
-    lines.append(f"remaining {s.remaining()}")
-
-
-def sweep(label, budget):
-    used, more = s.sweep(budget)
-    lines.append(f"{label}: {used}" + (" more" if more else ""))
-
-
-move(5, 4)
-move(5, 4)
-move(7, 4)
-say("remove 1", s.remove(1))
-ap(b"+5")
-aq(b"+4")
-remaining()
-move(5, 4)
-move(5, 4)
-move(5, 4)
-remaining()
-aq(b"-4")
-remaining()
-sweep("sweep 0", 0)
-sweep("sweep 1", 1)
-sweep("sweep 2", 2)
-sweep("sweep 4294967295", 4294967295)
-remaining()
-sweep("sweep 5", 5)
-
-
-def show(errno, masks):
-    say("masks", errno)
-    for word, bits in zip((" adapters", " domains", " controls"), masks):
-        lines.append("".join([word] + [f" {n}" for n in sorted(bits)]))
-
-
-def both():
-    v = s.find(1)
-    show(0, (v.has["adapter"], v.has["domain"], v.has["control"]))
-    show(0, s.guest(v))
-
-
-def usable(a, d):
-    lines.append("usable" if s.usable(1, a, d) else "not usable")
-
-
-say("create 1", s.create(1))
-ap(b"-5")
-for kind, text in (("adapter", b"5"), ("adapter", b"6"), ("domain", b"4"), ("domain", b"0xab"), ("control", b"71"), ("control", b"72")):
-    assign(1, kind, text)
-sweep("sweep", 131072)
-both()
-usable(6, 171)
-say("open 1", s.open(1))
-usable(6, 171)
-usable(6, 5)
-say("configure", s.configure({5, 6}, {4}, {71}, TYPES))
-both()
-say("configure", s.configure({5, 6}, {4, 171}, {71}, TYPES))
-both()
-move(5, 171)
-both()
-usable(5, 171)
-usable(6, 4)
-sweep("sweep", 131072)
-show(2, (set(), set(), set()))
-
-adapters, domains, _ = s.guest(s.find(1))
-lines.append(f"lines {len(adapters) * len(domains)}")
-for n, place, room in ((1, 0, 32), (1, 0, 20), (1, 1452, 20), (1, 1452, 16), (1, 0, 7), (2, 0, 7), (1, 65536, 32), (1, 65535, 32), (1, 2**64 - 1, 32)):
-    errno, written, after, buffer = s.list_guest(n, place, b"#" * room)
-    say("list", errno)
-    lines.append(f"{written} {after}")
-    lines.extend((buffer + b"#" * (32 - room)).decode().split("\n"))
-print("\n".join(lines))
+DO = {
+    "fresh": fresh,
+    "create": lambda n: name(s.create(n)),
+    "remove": lambda n: name(s.remove(n)),
+    "open": lambda n: name(s.open(n)),
+    "close": lambda n: name(s.close(n)),
+    "assign": lambda n, kind, text: name(s.assign(kind, n, text.encode())),
+    "unassign": lambda n, kind, text: name(s.unassign(kind, n, text.encode())),
+    "apmask": lambda text: name(s.set_mask("ap", text.encode())),
+    "aqmask": lambda text: name(s.set_mask("aq", text.encode())),
+    "configure": lambda t, a, d, c: name(s.configure(bits(a), bits(d), bits(c), [int(t)] * 256)),
+    "slot": lambda n: s.slot(n),
+    "target": lambda a, d: s.target(int(a), int(d)) or "none",
+    "move": lambda a, d: s.move(int(a), int(d)),
+    "remaining": lambda: s.remaining(),
+    "sweep": swept,
+    "masks": shown,
+    "usable": lambda n, a, d: "yes" if s.usable(n, int(a), int(d)) else "no",
+    "lines": lambda n, which: len(s.matrix(s.find(n), which)[0]) * len(s.matrix(s.find(n), which)[1]),
+    "list": listed,
+}
+for row in ROWS:
+    word, *arguments = row.split(" ")
+    if word not in DO:
+        lines.append(row)
+        continue
+    arguments = [a.replace("\\n", "\n") for a in arguments]
+    lines.append(f"{row}: {DO[word](*arguments)}")
+if __name__ == "__main__":
+    print("\n".join(lines))

@@ -21,17 +21,25 @@ class Service:
         self.ap, self.aq = set(range(256)), set(range(256))
         self.adapters, self.domains, self.controls, self.types = set(), set(), set(), [0] * 256
         self.driver = {}
-        self.devices = []
+        self.slots = [None] * 8
+
+    @property
+    def devices(self):
+        return [v for v in self.slots if v]
 
     def find(self, name):
         return next((v for v in self.devices if v.id == name), None)
+
+    def slot(self, name):
+        """The slot of a device, or 8."""
+        return next((k for k, v in enumerate(self.slots) if v and v.id == name), 8)
 
     def create(self, name):
         if self.find(name):
             return 17
         if len(self.devices) == 8:
             return 28
-        self.devices.append(Device(name))
+        self.slots[self.slots.index(None)] = Device(name)
         return 0
 
     def remove(self, name):
@@ -40,7 +48,7 @@ class Service:
             return 2
         if v.open:
             return 16
-        self.devices.remove(v)
+        self.slots[self.slot(name)] = None
         return 0
 
     def open(self, name):
@@ -169,14 +177,19 @@ class Service:
         adapters, domains, _ = self.guest(v)
         return a in adapters and d in domains
 
-    def list_guest(self, name, place, buffer):
-        """The answer, the bytes written, the next place and the buffer."""
+    def matrix(self, v, which):
+        if which == "assigned":
+            return v.has["adapter"], v.has["domain"], v.has["control"]
+        return self.guest(v)
+
+    def list(self, name, which, place, buffer):
+        """The answer, the bytes written, the next place and the buffer; no numbers where it is refused."""
         v = self.find(name)
         if not v:
-            return 2, 0, place, buffer
+            return 2, None, None, buffer
         if len(buffer) < 8:
-            return 28, 0, place, buffer
-        adapters, domains, _ = self.guest(v)
+            return 28, None, None, buffer
+        adapters, domains, _ = self.matrix(v, which)
         queues = [q for q in sorted(a * 256 + d for a in adapters for d in domains) if q >= place]
         fit = queues[:len(buffer) // 8]
         text = b"".join(b"%02x.%04x\n" % (q // 256, q % 256) for q in fit)

@@ -1,456 +1,342 @@
-// Calls every function of the service, and prints what each answers. The expected output was made by tests/cases.py with
-// a model in Python, not taken from a run, and gone through by hand with 01.
-use errno::Errno;
+// Calls every function of the service, and prints what each answers. The expected output is made by tests/cases.py, with
+// a model in Python that is written from 01.
 use guest::Shown;
 use listing::Listed;
 use mask::Apid;
 use mask::Apqi;
 use mask::Mask;
+use record::Drivers;
+use record::QUEUES;
 use record::WORDS;
+use record::Words;
 use rules::Answer;
 use rules::Configuration;
+use rules::Driver;
 use rules::Id;
 use rules::Kind;
-use rules::Masks;
 use rules::Matrix;
 use rules::Moved;
 
-const OUT: i32 = 1;
-
+// A row is a letter that says what is called, and the words that are printed before the answer. The arguments are among
+// these words. A row of the letter # only prints its words.
 fn main() {
-    let mut s = [0u64; WORDS];
-    let mut q = [0u8; 65536];
-    limits(&mut s, &mut q);
-    slots(&mut s);
-    life(&mut s);
-    texts(&mut s);
-    reserved(&mut s);
-    in_use(&mut s);
-    configuring(&mut s, &mut q);
-    moving(&mut s, &mut q);
-    sweeping(&mut s, &mut q);
-    guests(&mut s, &mut q);
-    listings(&mut s, &mut q);
-}
-
-// A limit above 255 makes no record.
-fn limits(s: &mut [u64; WORDS], q: &mut [u8; 65536]) {
-    answer(b"fresh 256 255", setup::fresh(s, q, 256, 255));
-    answer(b"fresh 255 256", setup::fresh(s, q, 255, 256));
-    answer(b"fresh 255 255", setup::fresh(s, q, 255, 255));
-}
-
-// Eight devices, a ninth, and the place of one that was removed (setting 14).
-fn slots(s: &mut [u64; WORDS]) {
-    made(s, 1);
-    made(s, 2);
-    made(s, 3);
-    made(s, 4);
-    made(s, 5);
-    made(s, 6);
-    made(s, 7);
-    made(s, 8);
-    answer(b"create 9", devices::create(s, id(9)));
-    answer(b"create 1", devices::create(s, id(1)));
-    answer(b"remove 4", devices::remove(s, id(4)));
-    answer(b"create 9", devices::create(s, id(9)));
-    answer(b"create 10", devices::create(s, id(10)));
-    answer(b"remove 10", devices::remove(s, id(10)));
-    gone(s, 3);
-    gone(s, 4);
-    gone(s, 5);
-    gone(s, 6);
-    gone(s, 7);
-    gone(s, 8);
-    gone(s, 9);
-}
-
-fn made(s: &mut [u64; WORDS], n: u64) {
-    answer(b"create", devices::create(s, id(n)));
-}
-
-fn gone(s: &mut [u64; WORDS], n: u64) {
-    answer(b"remove", devices::remove(s, id(n)));
-}
-
-fn life(s: &mut [u64; WORDS]) {
-    answer(b"close 1", devices::close(s, id(1)));
-    answer(b"open 1", devices::open(s, id(1)));
-    answer(b"open 1", devices::open(s, id(1)));
-    answer(b"remove 1", devices::remove(s, id(1)));
-    answer(b"close 1", devices::close(s, id(1)));
-    answer(b"open 3", devices::open(s, id(3)));
-    answer(b"close 3", devices::close(s, id(3)));
-}
-
-// Text is read before the device is looked for, and the device before the limit.
-fn texts(s: &mut [u64; WORDS]) {
-    adapter(s, 3, b"08");
-    adapter(s, 3, b"256");
-    adapter(s, 1, b"256");
-    adapter(s, 1, b"0xff\n");
-    adapter(s, 1, b"255");
-    no_adapter(s, 1, b"0377");
-    no_adapter(s, 1, b"0377");
-    no_control(s, 1, b"256");
-    no_control(s, 3, b"256");
-    no_control(s, 3, b"x");
-    apmask(s, b"0x");
-    aqmask(s, b"+1,");
-}
-
-// Queues that are reserved for the host (settings 7 and 11).
-fn reserved(s: &mut [u64; WORDS]) {
-    adapter(s, 1, b"5");
-    domain(s, 1, b"4");
-    apmask(s, b"-5,-6\n");
-    domain(s, 1, b"4");
-    apmask(s, b"+5");
-    aqmask(s, b"-4,-0x47,-0xab,-0xff");
-    apmask(s, b"+5");
-    aqmask(s, b"+4");
-    apmask(s, b"-5");
-}
-
-// Queues that are assigned to another device, open or not, configured or not (settings 6 and 12).
-fn in_use(s: &mut [u64; WORDS]) {
-    adapter(s, 2, b"5");
-    domain(s, 2, b"4");
-    domain(s, 2, b"0x47");
-    domain(s, 1, b"0x47");
-    control(s, 1, b"0x47");
-    control(s, 2, b"0x47");
-    no_domain(s, 2, b"0x47");
-    no_adapter(s, 2, b"5");
-    domain(s, 2, b"4");
-    domain(s, 2, b"6");
-    apmask(s, b"+6");
-    adapter(s, 2, b"6");
-    adapter(s, 2, b"5");
-    apmask(s, b"-6");
-    answer(b"remove 2", devices::remove(s, id(2)));
-    adapter(s, 1, b"6");
-    domain(s, 1, b"0xab");
-}
-
-// A configuration whose masks go above a limit is refused.
-fn configuring(s: &mut [u64; WORDS], q: &mut [u8; 65536]) {
-    let mut t = [0u64; WORDS];
-    let mut r = [0u8; 65536];
-    answer(b"fresh 63 15", setup::fresh(&mut t, &mut r, 63, 15));
-    answer(
-        b"configure 63 x 15",
-        host::configure(&mut t, &mut r, config(one(63), one(15), one(15))),
-    );
-    answer(
-        b"configure 64 x 15",
-        host::configure(&mut t, &mut r, config(one(64), one(15), one(15))),
-    );
-    answer(
-        b"configure 63 x 16",
-        host::configure(&mut t, &mut r, config(one(63), one(16), one(15))),
-    );
-    answer(
-        b"configure 63 x 15, 16",
-        host::configure(&mut t, &mut r, config(one(63), one(15), one(16))),
-    );
-    answer(
-        b"configure",
-        host::configure(s, q, config(one(5).with(6), one(4).with(171), one(71))),
+    let mut words = [0u64; WORDS];
+    let mut drivers = [0u8; QUEUES];
+    each(
+        &mut words,
+        &mut drivers,
+        b"f fresh 256 255;f fresh 255 256;f fresh 63 15;\
+        g configure 10 +63 +15 +15;g configure 10 +64 +15 +15;g configure 10 +63 +16 +15;g configure 10 +63 +15 +16;\
+        c create 1;a assign 1 adapter 63;a assign 1 adapter 64;a assign 1 domain 16;a assign 1 control 16;u unassign 1 domain 16;\
+        # setting 14;\
+        f fresh 255 255;c create 1;c create 2;c create 3;c create 4;c create 5;c create 6;c create 7;c create 8;c create 9;c create 1;\
+        r remove 4;c create 9;i slot 9;r remove 6;r remove 2;c create 10;i slot 10;r remove 2;i slot 2;\
+        x close 1;o open 1;o open 1;r remove 1;x close 1;r remove 1;o open 1;x close 1;\
+        a assign 1 adapter 08;a assign 1 adapter 256;a assign 3 adapter 256;a assign 3 adapter 0xff\n;a assign 3 adapter 255;\
+        u unassign 3 adapter 0377;u unassign 3 adapter 0377;u unassign 3 control 256;u unassign 1 control 256;u unassign 1 control x;\
+        p apmask 0x;q aqmask +1,;\
+        # setting 7;\
+        f fresh 255 255;c create 1;a assign 1 adapter 5;a assign 1 domain 4;\
+        # setting 11;\
+        p apmask -5\n;a assign 1 domain 4;p apmask +5;q aqmask -4;p apmask +5;q aqmask +4;p apmask -5;\
+        # setting 5;\
+        f fresh 255 255;p apmask 0x0;q aqmask 0x0;c create 1;c create 2;\
+        a assign 1 adapter 1;a assign 1 adapter 2;a assign 1 domain 5;a assign 1 domain 6;\
+        a assign 2 adapter 1;a assign 2 adapter 2;a assign 2 domain 7;\
+        # setting 6;\
+        a assign 2 domain 6;a assign 2 control 6;a assign 1 control 6;u unassign 2 adapter 1;u unassign 2 adapter 2;a assign 2 domain 6;\
+        a assign 2 adapter 2;r remove 1;a assign 2 adapter 2;\
+        # setting 12;\
+        f fresh 255 255;p apmask 0x04;q aqmask 0x02;c create 1;c create 2;a assign 1 adapter 5;a assign 1 domain 4;\
+        a assign 2 domain 4;a assign 2 domain 6;a assign 2 adapter 5;u unassign 2 domain 6;a assign 2 adapter 5;\
+        # setting 13;\
+        f fresh 255 255;g configure 10 +5 +4 0x0;t target 5 4;m move 5 4;p apmask -5;t target 5 4;\
+        n remaining;s sweep 0;m move 5 4;n remaining;m move 5 4;n remaining;m move 5 4;m move 7 4;\
+        g configure 9 +5 +4 0x0;t target 5 4;m move 5 4;t target 4 5;\
+        # budgets;\
+        f fresh 255 255;g configure 10 +5,+6 +4,+171 +71;s sweep 0;s sweep 3;s sweep 4294967295;s sweep 5;\
+        p apmask -5,-6;n remaining;s sweep 5;m move 6 4;s sweep 131072;n remaining;\
+        # setting 9;\
+        f fresh 255 255;p apmask -5,-6;g configure 10 +5,+6 +4,+171 +71;c create 1;\
+        a assign 1 adapter 5;a assign 1 adapter 6;a assign 1 domain 4;a assign 1 domain 0xab;a assign 1 control 71;a assign 1 control 72;\
+        k masks 1 assigned;k masks 1 guest;s sweep 3;k masks 1 guest;l list 1 assigned 0 32;l list 1 guest 0 32;j lines 1 assigned;j lines 1 guest;\
+        y usable 1 5 171;o open 1;y usable 1 5 171;y usable 1 6 4;y usable 1 5 5;y usable 2 5 171;\
+        # setting 10;\
+        g configure 10 +5,+6 +4 +71;k masks 1 guest;\
+        # a sweep;\
+        g configure 10 +5,+6 +4,+171 +71;k masks 1 guest;m move 5 171;k masks 1 guest;y usable 1 6 4;\
+        s sweep 131072;k masks 1 guest;y usable 1 6 4;k masks 2 guest;\
+        # the listing of 01;\
+        j lines 1 guest;l list 1 guest 0 32;l list 1 guest 0 20;l list 1 guest 1452 20;l list 1 guest 1452 16;l list 1 guest 0 7;l list 2 guest 0 7;\
+        l list 1 guest 65536 32;l list 1 guest 65535 32;l list 1 guest 18446744073709551615 32;",
     );
 }
 
-// Moves of single queues (setting 13).
-fn moving(s: &mut [u64; WORDS], q: &mut [u8; 65536]) {
-    moved(b"move 5 4", bind::move_queue(s, q, Apid(5), Apqi(4)));
-    moved(b"move 5 4", bind::move_queue(s, q, Apid(5), Apqi(4)));
-    moved(b"move 7 4", bind::move_queue(s, q, Apid(7), Apqi(4)));
-    answer(b"remove 1", devices::remove(s, id(1)));
-    apmask(s, b"+5");
-    aqmask(s, b"+4");
-    remaining(s, q);
-    moved(b"move 5 4", bind::move_queue(s, q, Apid(5), Apqi(4)));
-    moved(b"move 5 4", bind::move_queue(s, q, Apid(5), Apqi(4)));
-    moved(b"move 5 4", bind::move_queue(s, q, Apid(5), Apqi(4)));
-    remaining(s, q);
-    aqmask(s, b"-4");
-    remaining(s, q);
+fn each(words: &mut Words, drivers: &mut Drivers, rows: &[u8]) {
+    let mut start = 0usize;
+    let mut i = 0usize;
+    while i < rows.len() {
+        if rows[i] == b';' {
+            row(words, drivers, &rows[start..i]);
+            start = i + 1;
+        }
+        i += 1;
+    }
 }
 
-// Sweeps with budgets.
-fn sweeping(s: &mut [u64; WORDS], q: &mut [u8; 65536]) {
-    swept(b"sweep 0", bind::sweep(s, q, 0));
-    swept(b"sweep 1", bind::sweep(s, q, 1));
-    swept(b"sweep 2", bind::sweep(s, q, 2));
-    swept(b"sweep 4294967295", bind::sweep(s, q, 4294967295));
-    remaining(s, q);
-    swept(b"sweep 5", bind::sweep(s, q, 5));
+fn row(words: &mut Words, drivers: &mut Drivers, row: &[u8]) {
+    if 2 <= row.len() {
+        let s = &row[2..];
+        print::escaped(s);
+        step(words, drivers, row[0], s);
+    }
 }
 
-// A device's masks, assigned and as its guest gets them (settings 9 and 10).
-fn guests(s: &mut [u64; WORDS], q: &mut [u8; 65536]) {
-    answer(b"create 1", devices::create(s, id(1)));
-    apmask(s, b"-5");
-    adapter(s, 1, b"5");
-    adapter(s, 1, b"6");
-    domain(s, 1, b"4");
-    domain(s, 1, b"0xab");
-    control(s, 1, b"71");
-    control(s, 1, b"72");
-    swept(b"sweep", bind::sweep(s, q, 131072));
-    both(s, q);
-    usable(s, q, 6, 171);
-    answer(b"open 1", devices::open(s, id(1)));
-    usable(s, q, 6, 171);
-    usable(s, q, 6, 5);
-    answer(
-        b"configure",
-        host::configure(s, q, config(one(5).with(6), one(4), one(71))),
-    );
-    both(s, q);
-    answer(
-        b"configure",
-        host::configure(s, q, config(one(5).with(6), one(4).with(171), one(71))),
-    );
-    both(s, q);
-    moved(b"move 5 171", bind::move_queue(s, q, Apid(5), Apqi(171)));
-    both(s, q);
-    usable(s, q, 5, 171);
-    usable(s, q, 6, 4);
-    swept(b"sweep", bind::sweep(s, q, 131072));
-    shown(guest::masks(s, q, id(2), Matrix::Guest));
+fn step(words: &mut Words, drivers: &mut Drivers, letter: u8, s: &[u8]) {
+    let id = id(s);
+    match letter {
+        b'#' => end(b"\n"),
+        b'c' | b'r' | b'o' | b'x' => answer(device(words, letter, id)),
+        b'a' | b'u' => answer(assign(words, letter, id, s)),
+        b'f' | b'p' | b'q' | b'g' => answer(host(words, drivers, letter, s)),
+        b'm' | b't' | b's' | b'n' => queues(words, drivers, letter, s),
+        _ => shows(words, drivers, letter, id, s),
+    }
 }
 
-fn both(s: &[u64; WORDS], q: &[u8; 65536]) {
-    shown(guest::masks(s, q, id(1), Matrix::Assigned));
-    shown(guest::masks(s, q, id(1), Matrix::Guest));
+// ---- commands
+
+fn answer(a: Answer) {
+    print::answer(b": ", a);
 }
 
-// The listing of 000's first guest, in whole and in parts.
-fn listings(s: &mut [u64; WORDS], q: &mut [u8; 65536]) {
-    let m = guest::masks_at(s, q, 0, Matrix::Guest);
-    io::write_all(OUT, b"lines ");
-    io::print_decimal(OUT, listing::lines(m) as u64);
-    io::write_all(OUT, b"\n");
-    list(s, q, 1, 0, 32);
-    list(s, q, 1, 0, 20);
-    list(s, q, 1, 1452, 20);
-    list(s, q, 1, 1452, 16);
-    list(s, q, 1, 0, 7);
-    list(s, q, 2, 0, 7);
-    list(s, q, 1, 65536, 32);
-    list(s, q, 1, 65535, 32);
-    list(s, q, 1, 18446744073709551615, 32);
+fn device(words: &mut Words, letter: u8, id: Id) -> Answer {
+    match letter {
+        b'c' => devices::create(words, id),
+        b'r' => devices::remove(words, id),
+        b'o' => devices::open(words, id),
+        _ => devices::close(words, id),
+    }
 }
 
-fn list(s: &[u64; WORDS], q: &[u8; 65536], n: u64, place: usize, room: usize) {
+fn assign(words: &mut Words, letter: u8, id: Id, s: &[u8]) -> Answer {
+    let kind = kind(s);
+    let text = word(s, 3);
+    if letter == b'a' {
+        return assign::assign(words, kind, id, text);
+    }
+    assign::unassign(words, kind, id, text)
+}
+
+fn kind(s: &[u8]) -> Kind {
+    match first(word(s, 2)) {
+        b'a' => Kind::Adapter,
+        b'd' => Kind::Domain,
+        _ => Kind::Control,
+    }
+}
+
+fn host(words: &mut Words, drivers: &mut Drivers, letter: u8, s: &[u8]) -> Answer {
+    let text = word(s, 1);
+    match letter {
+        b'f' => setup::fresh(words, drivers, decimal(text), value(s, 2)),
+        b'p' => host::set_apmask(words, text),
+        b'q' => host::set_aqmask(words, text),
+        _ => host::configure(words, drivers, configuration(s)),
+    }
+}
+
+// The hardware type of every adapter, and the masks as texts that start from the empty one.
+fn configuration(s: &[u8]) -> Configuration {
+    let adapters = bits(s, 2);
+    let domains = bits(s, 3);
+    let controls = bits(s, 4);
+    let hardware = byte(s, 1);
+    Configuration {
+        adapters: adapters,
+        domains: domains,
+        controls: controls,
+        types: [hardware; 256],
+    }
+}
+
+fn bits(s: &[u8], k: usize) -> Mask {
+    let r = masktext::parse(word(s, k), Mask::empty());
+    r.mask
+}
+
+// ---- queues
+
+fn queues(words: &Words, drivers: &mut Drivers, letter: u8, s: &[u8]) {
+    let n = value(s, 1);
+    let apid = Apid((n % 256) as u8);
+    let apqi = Apqi(byte(s, 2));
+    match letter {
+        b'm' => moved(bind::move_queue(words, drivers, apid, apqi)),
+        b't' => target(bind::target(words, apid, apqi)),
+        b's' => sweep(bind::sweep(words, drivers, (n % 4294967296) as u32)),
+        _ => number(bind::remaining(words, drivers) as u64),
+    }
+}
+
+fn moved(m: Moved) {
+    match m {
+        Moved::Idle => end(b": idle\n"),
+        Moved::Released => end(b": released\n"),
+        Moved::BoundHost => end(b": host\n"),
+        Moved::BoundPassthrough => end(b": passthrough\n"),
+    }
+}
+
+fn target(d: Driver) {
+    match d {
+        Driver::Unbound => end(b": none\n"),
+        Driver::Host => end(b": host\n"),
+        Driver::Passthrough => end(b": passthrough\n"),
+    }
+}
+
+fn sweep(r: bind::Swept) {
+    number(r.used as u64);
+    print::text(b"moves remain");
+    yes(r.more);
+}
+
+// ---- devices and their matrices
+
+fn shows(words: &Words, drivers: &Drivers, letter: u8, id: Id, s: &[u8]) {
+    let matrix = matrix(s);
+    match letter {
+        b'i' => number(lookup::find(words, id) as u64),
+        b'y' => yes(guest::usable(words, drivers, id, Apid(byte(s, 2)), Apqi(byte(s, 3)))),
+        b'k' => masks(guest::masks(words, drivers, id, matrix)),
+        b'j' => lines(guest::masks(words, drivers, id, matrix)),
+        _ => list(words, drivers, id, matrix, s),
+    }
+}
+
+fn matrix(s: &[u8]) -> Matrix {
+    match first(word(s, 2)) {
+        b'a' => Matrix::Assigned,
+        _ => Matrix::Guest,
+    }
+}
+
+fn masks(r: Shown) {
+    let a = r.answer;
+    let m = r.masks;
+    answer(a);
+    if let Answer::Done = a {
+        let adapters = m.adapters;
+        let domains = m.domains;
+        let controls = m.controls;
+        print::mask_bits(b" adapters", adapters);
+        print::mask_bits(b" domains", domains);
+        print::mask_bits(b" controls", controls);
+    }
+}
+
+fn lines(r: Shown) {
+    let m = r.masks;
+    number(listing::lines(m) as u64);
+}
+
+fn list(words: &Words, drivers: &Drivers, id: Id, matrix: Matrix, s: &[u8]) {
     let mut buf = [b'#'; 32];
+    let place = value(s, 3) as usize;
+    let room = value(s, 4) as usize;
     if room < 33 {
-        let r = listing::list(s, q, id(n), Matrix::Guest, place, &mut buf[..room]);
-        listed(r);
+        listed(listing::list(words, drivers, id, matrix, place, &mut buf[..room]));
         whole(buf);
     }
 }
 
 fn whole(buf: [u8; 32]) {
-    io::write_all(OUT, &buf);
-    io::write_all(OUT, b"\n");
+    print::text(&buf);
+    print::text(b"\n");
 }
 
 fn listed(r: Listed) {
     let a = r.answer;
-    answer(b"list", a);
-    io::print_decimal(OUT, r.written as u64);
-    io::write_all(OUT, b" ");
-    io::print_decimal(OUT, r.next as u64);
-    io::write_all(OUT, b"\n");
-}
-
-// ---- arguments
-
-fn id(n: u64) -> Id {
-    Id { hi: 0, lo: n }
-}
-
-fn one(n: u8) -> Mask {
-    Mask::empty().with(n)
-}
-
-fn config(adapters: Mask, domains: Mask, controls: Mask) -> Configuration {
-    Configuration {
-        adapters: adapters,
-        domains: domains,
-        controls: controls,
-        types: [10u8; 256],
+    answer(a);
+    if let Answer::Done = a {
+        print::decimal(r.written as u64);
+        print::number(b" ", r.next as u64);
     }
 }
 
-// ---- commands with a text
+// ---- ends of lines
 
-fn adapter(s: &mut [u64; WORDS], n: u64, text: &[u8]) {
-    label(b"assign ", n, b" adapter ", text);
-    answer(b"", assign::assign(s, Kind::Adapter, id(n), text));
+fn end(s: &[u8]) {
+    print::text(s);
 }
 
-fn domain(s: &mut [u64; WORDS], n: u64, text: &[u8]) {
-    label(b"assign ", n, b" domain ", text);
-    answer(b"", assign::assign(s, Kind::Domain, id(n), text));
+fn number(n: u64) {
+    print::number(b": ", n);
 }
 
-fn control(s: &mut [u64; WORDS], n: u64, text: &[u8]) {
-    label(b"assign ", n, b" control ", text);
-    answer(b"", assign::assign(s, Kind::Control, id(n), text));
-}
-
-fn no_adapter(s: &mut [u64; WORDS], n: u64, text: &[u8]) {
-    label(b"unassign ", n, b" adapter ", text);
-    answer(b"", assign::unassign(s, Kind::Adapter, id(n), text));
-}
-
-fn no_domain(s: &mut [u64; WORDS], n: u64, text: &[u8]) {
-    label(b"unassign ", n, b" domain ", text);
-    answer(b"", assign::unassign(s, Kind::Domain, id(n), text));
-}
-
-fn no_control(s: &mut [u64; WORDS], n: u64, text: &[u8]) {
-    label(b"unassign ", n, b" control ", text);
-    answer(b"", assign::unassign(s, Kind::Control, id(n), text));
-}
-
-fn apmask(s: &mut [u64; WORDS], text: &[u8]) {
-    io::write_all(OUT, b"apmask ");
-    body(text);
-    answer(b"", host::set_apmask(s, text));
-}
-
-fn aqmask(s: &mut [u64; WORDS], text: &[u8]) {
-    io::write_all(OUT, b"aqmask ");
-    body(text);
-    answer(b"", host::set_aqmask(s, text));
-}
-
-fn label(word: &[u8], n: u64, kind: &[u8], text: &[u8]) {
-    io::write_all(OUT, word);
-    io::print_decimal(OUT, n);
-    io::write_all(OUT, kind);
-    body(text);
-}
-
-// A text without its final newline.
-fn body(text: &[u8]) {
-    let n = number::body_len(text);
-    if n <= text.len() {
-        io::write_all(OUT, &text[..n]);
-    }
-}
-
-// ---- lines
-
-fn answer(label: &[u8], a: Answer) {
-    io::write_all(OUT, label);
-    io::write_all(OUT, b": ");
-    match a {
-        Answer::Done => {
-            io::write_all(OUT, b"ok");
-        }
-        Answer::Refused(e) => {
-            name(e);
-        }
-    }
-    io::write_all(OUT, b"\n");
-}
-
-fn name(e: Errno) {
-    let a = errno::name(e);
-    let bytes = a.bytes;
-    let len = a.len;
-    start(bytes, len);
-}
-
-// The first n bytes, of at most 14.
-fn start(bytes: [u8; 14], n: usize) {
-    if n < 15 {
-        io::write_all(OUT, &bytes[..n]);
-    }
-}
-
-fn moved(label: &[u8], m: Moved) {
-    io::write_all(OUT, label);
-    match m {
-        Moved::Idle => {
-            io::write_all(OUT, b": idle\n");
-        }
-        Moved::Released => {
-            io::write_all(OUT, b": released\n");
-        }
-        Moved::BoundHost => {
-            io::write_all(OUT, b": host\n");
-        }
-        Moved::BoundPassthrough => {
-            io::write_all(OUT, b": passthrough\n");
-        }
-    }
-}
-
-fn remaining(s: &[u64; WORDS], q: &[u8; 65536]) {
-    io::write_all(OUT, b"remaining ");
-    io::print_decimal(OUT, bind::remaining(s, q) as u64);
-    io::write_all(OUT, b"\n");
-}
-
-fn swept(label: &[u8], r: bind::Swept) {
-    io::write_all(OUT, label);
-    io::write_all(OUT, b": ");
-    io::print_decimal(OUT, r.used as u64);
-    if r.more {
-        io::write_all(OUT, b" more\n");
+fn yes(b: bool) {
+    if b {
+        end(b": yes\n");
     } else {
-        io::write_all(OUT, b"\n");
+        end(b": no\n");
     }
 }
 
-fn usable(s: &[u64; WORDS], q: &[u8; 65536], a: u8, d: u8) {
-    if guest::usable(s, q, id(1), Apid(a), Apqi(d)) {
-        io::write_all(OUT, b"usable\n");
-    } else {
-        io::write_all(OUT, b"not usable\n");
-    }
+// ---- words
+
+fn id(s: &[u8]) -> Id {
+    let n = value(s, 1);
+    Id { hi: n, lo: n }
 }
 
-fn shown(r: Shown) {
-    let a = r.answer;
-    answer(b"masks", a);
-    let m = r.masks;
-    masks(m);
+fn byte(s: &[u8], k: usize) -> u8 {
+    (value(s, k) % 256) as u8
 }
 
-fn masks(m: Masks) {
-    let adapters = m.adapters;
-    let domains = m.domains;
-    let controls = m.controls;
-    bits(b" adapters", adapters);
-    bits(b" domains", domains);
-    bits(b" controls", controls);
+fn value(s: &[u8], k: usize) -> u64 {
+    decimal(word(s, k))
 }
 
-// The set bits of a mask, in decimal.
-fn bits(label: &[u8], m: Mask) {
-    io::write_all(OUT, label);
-    set_bits(m);
-    io::write_all(OUT, b"\n");
+fn first(s: &[u8]) -> u8 {
+    if 0 < s.len() { s[0] } else { 0 }
 }
 
-fn set_bits(m: Mask) {
+// A number in decimal. One that is too large counts as the largest.
+fn decimal(s: &[u8]) -> u64 {
+    let mut n = 0u64;
     let mut i = 0usize;
-    while i < 256 {
-        bit(m, (i % 256) as u8);
+    while i < s.len() {
+        n = longer(n, s[i]);
         i += 1;
     }
+    n
 }
 
-fn bit(m: Mask, i: u8) {
-    if m.has(i) {
-        io::write_all(OUT, b" ");
-        io::print_decimal(OUT, i as u64);
+fn longer(n: u64, c: u8) -> u64 {
+    if n < 1844674407370955161 {
+        return n * 10 + (c % 16 % 10) as u64;
     }
+    18446744073709551615
+}
+
+// Word k of a row, where its first is 0. A row with fewer has the empty word there.
+fn word(s: &[u8], k: usize) -> &[u8] {
+    let mut left = k;
+    let mut start = 0usize;
+    let mut i = 0usize;
+    while i < s.len() {
+        if s[i] == b' ' {
+            if left == 0 {
+                return &s[start..i];
+            }
+            left -= 1;
+            start = i + 1;
+        }
+        i += 1;
+    }
+    if left == 0 {
+        return &s[start..];
+    }
+    &s[i..]
 }

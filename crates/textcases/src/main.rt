@@ -1,267 +1,140 @@
-// Reads texts of numbers and masks, and prints what each comes to. The expected output was made by tests/textcases.py,
-// which is written from 01's rules and shares no code with the readers, and not taken from a run.
+// Reads texts of numbers and masks, and prints what each comes to. The expected output is made by tests/textcases.py,
+// which is written from 01's rules and shares no code with the readers.
 use errno::Errno;
 use mask::Mask;
+use masktext::MaskRead;
 use number::Number;
 
-const OUT: i32 = 1;
-
+// A text stands between the letter that says how it is read and a semicolon: n as a number; e and f as a mask, on the
+// empty and on the full one; l, h and i each of its starts, as a number (with a newline too), as a hex mask and as an
+// item; N and M with every byte at every place, as a number and as a mask: a line for each text that is good.
 fn main() {
-    hand_numbers();
-    hand_masks();
-    bad_masks();
-    number_lengths(b'0');
-    number_lengths(b'1');
-    hex_lengths();
-    item_lengths();
-    number_bytes(b"7");
-    number_bytes(b"10\n");
-    number_bytes(b"0x1f");
-    number_bytes(b"0107");
-    mask_bytes(b"0x4");
-    mask_bytes(b"0xa1\n");
-    mask_bytes(b"+1");
-    mask_bytes(b"-0x9,+07\n");
-}
-
-// The worked examples of the papers, and the edges of the rule.
-fn hand_numbers() {
-    number(b"4");
-    number(b"0x5");
-    number(b"020");
-    number(b"0x8");
-    number(b"0107");
-    number(b"71\n");
-    number(b"0x47");
-    number(b"0");
-    number(b"0\n");
-    number(b"00");
-    number(b"256");
-    number(b"65535");
-    number(b"65536");
-    number(b"0xffff");
-    number(b"0xFfFf");
-    number(b"0x10000");
-    number(b"0177777");
-    number(b"0200000");
-    number(b"08");
-    number(b"0x");
-    number(b"0X5");
-    number(b"x5");
-    number(b"+5");
-    number(b"-5");
-    number(b" 5");
-    number(b"5 ");
-    number(b"");
-    number(b"\n");
-    number(b"5\n\n");
-    number(b"\n5");
-    number(b"5a");
-    number(b"0xg");
-}
-
-fn hand_masks() {
-    mask(b"0x41", Mask::empty());
-    mask(b"0x7d", Mask::empty());
-    mask(b"0x41", Mask::full());
-    mask(b"0xffff", Mask::empty());
-    mask(b"0x40", Mask::empty());
-    mask(
-        b"0x7dffffffffffffffffffffffffffffffffffffffffffffffffffffffffffffff",
-        Mask::empty(),
+    each(
+        b"n4;n0x5;n020;n0x8;n0107;n71\n;n0x47;n0;n0\n;n00;n256;n65535;n65536;n0xffff;n0xFfFf;\
+        n0x10000;n0177777;n0200000;n08;n0x;n0X5;nx5;n+5;n-5;n 5;n5 ;n;n\n;n5\n\n;n\n5;n5a;n0xg;\
+        e0x41;e0x7d;f0x41;e0xffff;e0x40;\
+        e0x7dffffffffffffffffffffffffffffffffffffffffffffffffffffffffffffff;\
+        e0x7DFFFFFFFFFFFFFFFFFFFFFFFFFFFFFFFFFFFFFFFFFFFFFFFFFFFFFFFFFFFFFF\n;\
+        e+0;f-13;e+0x41;f-0xff;e+0,-6,+0x47,-0xf0;f+0,-6,+0x47,-0xf0;f-5,-6;\
+        f-4,-0x47,-0xab,-0xff\n;e+5,-5,+5;e+255;e+256;e+0377;e+0400;\
+        f;f\n;f0x;f0xfg;f0X41;f5;f+;f+5,;f,+5;f+5,,+6;f+5\n,+6;f+5,+6\n\n;f+ 5;f+5 +6;f++5;f+08;\
+        l000000000000000000000;l111111111111111111111;\
+        h0xccccccccccccccccccccccccccccccccccccccccccccccccccccccccccccccccccccc;\
+        i+000000000000000000000;\
+        N7;N10\n;N0x1f;N0107;\
+        M0x4;M0xa1\n;M+1;M-0x9,+07\n;",
     );
-    mask(
-        b"0x7DFFFFFFFFFFFFFFFFFFFFFFFFFFFFFFFFFFFFFFFFFFFFFFFFFFFFFFFFFFFFFF\n",
-        Mask::empty(),
-    );
-    mask(b"+0", Mask::empty());
-    mask(b"-13", Mask::full());
-    mask(b"+0x41", Mask::empty());
-    mask(b"-0xff", Mask::full());
-    mask(b"+0,-6,+0x47,-0xf0", Mask::empty());
-    mask(b"+0,-6,+0x47,-0xf0", Mask::full());
-    mask(b"-5,-6", Mask::full());
-    mask(b"-4,-0x47,-0xab,-0xff\n", Mask::full());
-    mask(b"+5,-5,+5", Mask::empty());
-    mask(b"+255", Mask::empty());
-    mask(b"+256", Mask::empty());
-    mask(b"+0377", Mask::empty());
-    mask(b"+0400", Mask::empty());
 }
 
-// Texts that are no mask.
-fn bad_masks() {
-    mask(b"", Mask::full());
-    mask(b"\n", Mask::full());
-    mask(b"0x", Mask::full());
-    mask(b"0xfg", Mask::full());
-    mask(b"0X41", Mask::full());
-    mask(b"5", Mask::full());
-    mask(b"+", Mask::full());
-    mask(b"+5,", Mask::full());
-    mask(b",+5", Mask::full());
-    mask(b"+5,,+6", Mask::full());
-    mask(b"+5\n,+6", Mask::full());
-    mask(b"+5,+6\n\n", Mask::full());
-    mask(b"+ 5", Mask::full());
-    mask(b"+5 +6", Mask::full());
-    mask(b"++5", Mask::full());
-    mask(b"+08", Mask::full());
+fn each(t: &[u8]) {
+    let mut start = 0usize;
+    let mut i = 0usize;
+    while i < t.len() {
+        if t[i] == b';' {
+            if start < i {
+                read(t[start], &t[start + 1..i]);
+            }
+            start = i + 1;
+        }
+        i += 1;
+    }
 }
 
-// A line for a number's text.
+fn read(how: u8, s: &[u8]) {
+    match how {
+        b'n' => number(s),
+        b'e' => mask(s, Mask::empty()),
+        b'f' => mask(s, Mask::full()),
+        b'l' => number_starts(s),
+        b'h' => mask_starts(s, 2, Mask::full()),
+        b'i' => mask_starts(s, 1, Mask::empty()),
+        _ => bytes(how, s),
+    }
+}
+
 fn number(s: &[u8]) {
-    io::write_all(OUT, b"number ");
-    text(s);
+    label(b"number ", s);
     number_outcome(number::parse(s));
+}
+
+fn label(word: &[u8], s: &[u8]) {
+    print::text(word);
+    print::escaped(s);
+    print::text(b": ");
 }
 
 fn number_outcome(n: Number) {
     match n {
         Number::Value(v) => {
-            decimal(v);
+            print::number(b"", v as u64);
         }
         Number::Bad => {
-            einval();
+            bad();
         }
     }
-    io::write_all(OUT, b"\n");
 }
 
-// A line for a mask's text.
 fn mask(s: &[u8], old: Mask) {
-    io::write_all(OUT, b"mask ");
-    text(s);
+    label(b"mask ", s);
     mask_outcome(masktext::parse(s, old));
 }
 
-fn mask_outcome(r: masktext::MaskRead) {
+fn mask_outcome(r: MaskRead) {
     if r.good {
         let m = r.mask;
-        hex_mask(m);
+        hex(m);
     } else {
-        einval();
-    }
-    io::write_all(OUT, b"\n");
-}
-
-fn einval() {
-    let name = errno::name(Errno::Einval);
-    let bytes = name.bytes;
-    let len = name.len;
-    start(bytes, len);
-}
-
-// The first n bytes, of at most 14.
-fn start(bytes: [u8; 14], n: usize) {
-    if n < 15 {
-        io::write_all(OUT, &bytes[..n]);
+        bad();
     }
 }
 
-// A text, with a newline as \n, and a colon after it.
-fn text(s: &[u8]) {
-    let mut i = 0usize;
-    while i < s.len() {
-        text_byte(s[i]);
-        i += 1;
-    }
-    io::write_all(OUT, b": ");
+fn hex(m: Mask) {
+    let digits = print::mask_digits(m);
+    print::text(b"0x");
+    print::text(&digits);
+    print::text(b"\n");
 }
 
-fn text_byte(c: u8) {
-    if c == b'\n' {
-        io::write_all(OUT, b"\\n");
-    } else {
-        byte(c);
-    }
+fn bad() {
+    print::name(Errno::Einval);
+    print::text(b"\n");
 }
 
-fn byte(c: u8) {
-    let one = [c];
-    io::write_all(OUT, &one);
-}
-
-fn decimal(v: u16) {
-    io::print_decimal(OUT, v as u64);
-}
-
-// A mask as 0x and 64 hex digits.
-fn hex_mask(m: Mask) {
-    let b = maskbytes::to_bytes(m);
-    io::write_all(OUT, b"0x");
-    let mut i = 0usize;
-    while i < 32 {
-        let c = b[i];
-        byte(hex_digit(c / 16));
-        byte(hex_digit(c % 16));
-        i += 1;
-    }
-}
-
-fn hex_digit(v: u8) -> u8 {
-    if v < 10 {
-        return b'0' + v;
-    }
-    if v < 16 {
-        return b'a' - 10 + v;
-    }
-    b'?'
-}
-
-// Numbers of 0 to 20 times the same digit, with and without a final newline.
-fn number_lengths(c: u8) {
-    let mut s = [c; 24];
+fn number_starts(t: &[u8]) {
     let mut n = 0usize;
-    while n < 21 {
-        s[n] = c;
-        number_outcome(number::parse(&s[..n]));
-        s[n] = b'\n';
-        number_outcome(number::parse(&s[..n + 1]));
-        s[n] = c;
+    while n < t.len() {
+        number_outcome(number::parse(&t[..n]));
+        number_outcome(number_of(changed(t, n, 10), n + 1));
         n += 1;
     }
 }
 
-// Hex masks of 0 to 68 digits.
-fn hex_lengths() {
-    let mut s = [b'c'; 80];
-    s[0] = b'0';
-    s[1] = b'x';
-    let mut n = 2usize;
-    while n < 71 {
-        mask_outcome(masktext::parse(&s[..n], Mask::full()));
+fn mask_starts(t: &[u8], from: usize, old: Mask) {
+    let mut n = from;
+    while n < t.len() {
+        mask_outcome(masktext::parse(&t[..n], old));
         n += 1;
     }
 }
 
-// One item with a number of 0 to 20 bytes.
-fn item_lengths() {
-    let mut s = [b'0'; 24];
-    s[0] = b'+';
-    let mut n = 1usize;
-    while n < 22 {
-        mask_outcome(masktext::parse(&s[..n], Mask::empty()));
-        n += 1;
-    }
-}
-
-// Every byte at every place of a number's text: a line for each that is good.
-fn number_bytes(t: &[u8]) {
+fn bytes(how: u8, t: &[u8]) {
     let mut place = 0usize;
     while place < t.len() {
         let mut b = 0usize;
         while b < 256 {
-            good_number(changed(t, place, b), t.len(), place, b);
+            changed_byte(how, t, place, b);
             b += 1;
         }
         place += 1;
     }
 }
 
-fn good_number(s: [u8; 16], n: usize, place: usize, b: usize) {
-    if n < 17 {
-        number_line(number::parse(&s[..n]), place, b);
+fn changed_byte(how: u8, t: &[u8], place: usize, b: usize) {
+    let s = changed(t, place, b);
+    if how == b'N' {
+        number_line(number_of(s, t.len()), place, b);
+    } else {
+        mask_line(mask_of(s, t.len()), place, b);
     }
 }
 
@@ -269,60 +142,56 @@ fn number_line(n: Number, place: usize, b: usize) {
     match n {
         Number::Value(v) => {
             at(place, b);
-            decimal(v);
-            io::write_all(OUT, b"\n");
+            print::number(b"", v as u64);
         }
         Number::Bad => {}
     }
 }
 
-// Every byte at every place of a mask's text, on the mask of all ones: a line for each that is good.
-fn mask_bytes(t: &[u8]) {
-    let mut place = 0usize;
-    while place < t.len() {
-        let mut b = 0usize;
-        while b < 256 {
-            good_mask(changed(t, place, b), t.len(), place, b);
-            b += 1;
-        }
-        place += 1;
-    }
-}
-
-fn good_mask(s: [u8; 16], n: usize, place: usize, b: usize) {
-    if n < 17 {
-        mask_line(masktext::parse(&s[..n], Mask::full()), place, b);
-    }
-}
-
-fn mask_line(r: masktext::MaskRead, place: usize, b: usize) {
+fn mask_line(r: MaskRead, place: usize, b: usize) {
     if r.good {
         at(place, b);
         let m = r.mask;
-        hex_mask(m);
-        io::write_all(OUT, b"\n");
+        hex(m);
     }
 }
 
-// The place and the byte of a line.
 fn at(place: usize, b: usize) {
-    io::print_decimal(OUT, place as u64);
-    io::write_all(OUT, b" ");
-    io::print_decimal(OUT, b as u64);
-    io::write_all(OUT, b" ");
+    print::decimal(place as u64);
+    print::text(b" ");
+    print::decimal(b as u64);
+    print::text(b" ");
 }
 
-// A text of at most 16 bytes, with another byte at a place.
-fn changed(t: &[u8], place: usize, b: usize) -> [u8; 16] {
-    let mut s = [0u8; 16];
+// The first n bytes, of at most 24, read as a number.
+fn number_of(s: [u8; 24], n: usize) -> Number {
+    if n < 25 {
+        return number::parse(&s[..n]);
+    }
+    Number::Bad
+}
+
+fn mask_of(s: [u8; 24], n: usize) -> MaskRead {
+    if n < 25 {
+        return masktext::parse(&s[..n], Mask::full());
+    }
+    MaskRead {
+        good: false,
+        mask: Mask::full(),
+    }
+}
+
+// A text of at most 24 bytes, with another byte at a place.
+fn changed(t: &[u8], place: usize, b: usize) -> [u8; 24] {
+    let mut s = [0u8; 24];
     let mut i = 0usize;
     while i < t.len() {
-        if i < 16 {
+        if i < 24 {
             s[i] = t[i];
         }
         i += 1;
     }
-    if place < 16 {
+    if place < 24 {
         s[place] = (b % 256) as u8;
     }
     s

@@ -7,8 +7,11 @@ use borrow.Author.Needs.{needs}
 use Rattle.cases.proofs.list.Statement.{statement}
 use Rattle.cases.proofs.list.Tie as tie
 
-id-requires : tie.Need-id-requires
-id-requires c κs = search needs
+value-requires : tie.Need-value-requires
+value-requires c κs = search needs
+
+value-requires-2 : tie.Need-value-requires-2
+value-requires-2 c κs = search needs
 
 array-borrow-prefix-buf : tie.Need-array-borrow-prefix-buf
 array-borrow-prefix-buf c = search needs
@@ -35,7 +38,8 @@ pub list-spec : {M : Type 1} → statement M
 list-spec =
     tie.close
     (tie.spec
-    id-requires
+    value-requires
+    value-requires-2
     array-borrow-prefix-buf
     slice-aggregate-list
     list-requires

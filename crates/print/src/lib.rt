@@ -1,0 +1,147 @@
+// What the programs print with. The text is made by functions whose contracts pin it; text and first hand it to standard
+// output, and answer how many bytes they handed over. What arrives there no contract can say.
+//
+// Rests on errno, mask, maskbytes and rules, and on the kit's io.
+use errno::Errno;
+use mask::Mask;
+use rules::Answer;
+ghost use mathlib.Core.Path.{_≡_};
+ghost use Prim.Native.Nat.{_<_, min};
+ghost use lib.ListN.{length};
+ghost use Rattle.io.specs.Digits.{Fewest};
+ghost use Rattle.errno.specs.Errno.{numberOf};
+ghost use Rattle.mask.specs.Bits.{bits, countBelow, numbers};
+ghost use Rattle.rules.specs.Commands.{answered};
+ghost use Rattle.print.specs.Hex.{hexDigit, hexOf};
+
+const OUT: i32 = 1;
+
+pub fn text(s: &[u8]) -> usize
+    ensures { λ r. ⌜ r ≡ length (now (s .entry)) ⌝ }
+{
+    io::write_all(OUT, s);
+    s.len()
+}
+
+// The first n bytes, or all where there are fewer.
+pub fn first(s: &[u8], n: usize) -> usize
+    ensures { λ r. ⌜ r ≡ min n (length (now (s .entry))) ⌝ }
+{
+    if s.len() <= n {
+        return text(s);
+    }
+    text(&s[..n])
+}
+
+// A text with each newline as \n, so that it stays on its line. Answers the length of the text itself.
+pub fn escaped(s: &[u8]) -> usize
+    ensures { λ r. ⌜ r ≡ length (now (s .entry)) ⌝ }
+{
+    let mut i = 0usize;
+    while i < s.len() {
+        escaped_byte(s[i]);
+        i += 1;
+    }
+    i
+}
+
+fn escaped_byte(c: u8) {
+    if c == b'\n' {
+        text(b"\\n");
+    } else {
+        let one = [c];
+        text(&one);
+    }
+}
+
+// A line of a label and a number in decimal. Answers how many digits that took.
+pub fn number(label: &[u8], n: u64) -> usize
+    ensures { λ r. ⌜ Fewest 10 1 n r ⌝ }
+{
+    text(label);
+    let r = decimal(n);
+    text(b"\n");
+    r
+}
+
+// A number in decimal. Answers how many digits that took.
+pub fn decimal(n: u64) -> usize
+    ensures { λ r. ⌜ Fewest 10 1 n r ⌝ }
+{
+    let mut digits = [0u8; 20];
+    let k = io::decimal(n, &mut digits);
+    text(&digits[..k]);
+    k
+}
+
+// A line of a label and what a command answered: ok, or the name of the refusal. Answers the errno value.
+pub fn answer(label: &[u8], a: Answer) -> u8
+    ensures { λ r. ⌜ r ≡ answered a ⌝ }
+{
+    let r = rules::answer_number(a);
+    text(label);
+    match a {
+        Answer::Done => {
+            text(b"ok");
+        }
+        Answer::Refused(e) => {
+            name(e);
+        }
+    }
+    text(b"\n");
+    r
+}
+
+// The name of a refusal. Answers its errno value.
+pub fn name(e: Errno) -> u8
+    ensures { λ r. ⌜ r ≡ numberOf e ⌝ }
+{
+    let name = errno::name(e);
+    let bytes = name.bytes;
+    first(&bytes, name.len);
+    errno::number(e)
+}
+
+// A line of a label and the numbers of a mask's bits. Answers how many there are.
+pub fn mask_bits(label: &[u8], m: Mask) -> u32
+    ensures { λ r. ⌜ r ≡ countBelow 256 (bits m) ⌝ }
+{
+    text(label);
+    let mut i = 0usize;
+    while i < 256 {
+        bit(m, (i % 256) as u8);
+        i += 1;
+    }
+    text(b"\n");
+    m.count()
+}
+
+fn bit(m: Mask, i: u8) {
+    if m.has(i) {
+        text(b" ");
+        decimal(i as u64);
+    }
+}
+
+// The 64 hex digits of a mask.
+pub fn mask_digits(m: Mask) -> [u8; 64]
+    ensures { λ r. ⌜ r ≡ hexOf (numbers 8 32 (bits m) 0) ⌝ }
+{
+    let b = maskbytes::to_bytes(m);
+    let mut out = [0u8; 64];
+    let mut i = 0usize;
+    while i < 32 {
+        let c = b[i];
+        out[2 * i] = hex_digit(c / 16);
+        out[2 * i + 1] = hex_digit(c % 16);
+        i += 1;
+    }
+    out
+}
+
+fn hex_digit(n: u8) -> u8
+    requires { ⌜ n < 16 ⌝ }
+    ensures { λ r. ⌜ r ≡ hexDigit n ⌝ }
+{
+    if n < 10 { b'0' + n } else { b'a' - 10 + n }
+}
