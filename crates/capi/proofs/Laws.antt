@@ -1,45 +1,53 @@
--- Laws of names by their values, and of masks that are put one after the other.
+-- Laws of cases by their values, and of masks that are put one after the other.
 -- Assumes nothing.
-use Prim.Native.Nat.{ℕ, _+_, _-_}
+use Prim.Native.Nat.{ℕ, _+_}
 use native.Mathlib.Omega.{arith}
+use mathlib.Core.Bool.{cond}
 use mathlib.Core.List.{List, [], _++_, append-nil, append-assoc}
 use mathlib.Core.Path.{_≡_, refl, sym, ap, _∙_}
-use lib.ListN.{length, drop, replicate, length-append}
+use lib.ListN.{length, drop, length-append}
+use lib.Dec.{eqb}
 use lib.Seq.{paste, take-at, take-all, drop-drop, drop-length, drop-append-add}
-use borrow.Author.Tests.{ne-eqb}
 use Rattle.errno.specs.declared.Errno.{Errno}
 use Rattle.errno.specs.declared.Errno.the-variants.{Enoent, Ebusy, Eexist, Enodev, Einval, Enospc, Eaddrinuse, Eaddrnotavail}
-use Rattle.errno.specs.Errno.{numberOf, nameOf, cases}
+use Rattle.errno.specs.Errno.{numberOf}
 use Rattle.mask.specs.Bits.{Bits}
 use Rattle.mask.proofs.Laws.{numbers-words}
-use Rattle.capi.specs.Numbered.{nameIn, nameLength, namePadded}
-use Rattle.capi.specs.Shown.{maskBytes}
+use Rattle.capi.specs.Shown.{maskBytes, Nameless}
 
--- the name of each case by its number
-own-name : (e : Errno) → nameIn (numberOf e) cases ≡ nameOf e
-unfolding nameIn numberOf cases
-own-name Enoent = refl
-own-name Ebusy = refl
-own-name Eexist = refl
-own-name Enodev = refl
-own-name Einval = refl
-own-name Enospc = refl
-own-name Eaddrinuse = refl
-own-name Eaddrnotavail = refl
+-- the case with a number
+caseWith : ℕ → Errno
+caseWith n =
+    cond (eqb n 2) Enoent
+    (cond (eqb n 16) Ebusy
+    (cond (eqb n 17) Eexist (cond (eqb n 19) Enodev (cond (eqb n 22) Einval (cond (eqb n 28) Enospc (cond (eqb n 98) Eaddrinuse Eaddrnotavail))))))
 
--- the name of the case that has a value
-pub named : (value : ℕ) (e : Errno) → value ≡ numberOf e → {len : ℕ} {bytes : List ℕ}
-    → (len ≡ length (nameOf e)) × (bytes ≡ nameOf e ++ replicate (14 - length (nameOf e)) 0) → (len ≡ nameLength value) × (bytes ≡ namePadded value)
-unfolding nameLength namePadded
-named value e h n = let name : nameIn value cases ≡ nameOf e = ap (λ (v : ℕ). nameIn v cases) h ∙ own-name e in rw name n
+own-case : (e : Errno) → caseWith (numberOf e) ≡ e
+unfolding caseWith numberOf
+own-case Enoent = refl
+own-case Ebusy = refl
+own-case Eexist = refl
+own-case Enodev = refl
+own-case Einval = refl
+own-case Enospc = refl
+own-case Eaddrinuse = refl
+own-case Eaddrnotavail = refl
 
--- no case has any other value
-pub nameless : (value : ℕ) → (value ≡ 2 → ⊥) → (value ≡ 16 → ⊥) → (value ≡ 17 → ⊥) → (value ≡ 19 → ⊥) → (value ≡ 22 → ⊥) → (value ≡ 28 → ⊥)
-    → (value ≡ 98 → ⊥) → (value ≡ 99 → ⊥) → (0 ≡ nameLength value) × (replicate 14 0 ≡ namePadded value)
-unfolding nameIn numberOf cases nameLength namePadded
-nameless value a b c d e f g h =
-    let name : nameIn value cases ≡ [] = rw (ne-eqb value 2 a, ne-eqb value 16 b, ne-eqb value 17 c, ne-eqb value 19 d, ne-eqb value 22 e, ne-eqb value 28 f, ne-eqb value 98 g, ne-eqb value 99 h) in
-    (sym (ap length name), sym (ap (λ (l : List ℕ). l ++ replicate (14 - length l) 0) name))
+-- one case has a number
+pub one-case : {n : ℕ} (e f : Errno) → n ≡ numberOf e → n ≡ numberOf f → e ≡ f
+one-case e f p q = sym (own-case e) ∙ ap caseWith (sym p ∙ q) ∙ own-case f
+
+-- no case has a number that is none of the eight
+pub nameless : (n : ℕ) → (n ≡ 2 → ⊥) → (n ≡ 16 → ⊥) → (n ≡ 17 → ⊥) → (n ≡ 19 → ⊥) → (n ≡ 22 → ⊥) → (n ≡ 28 → ⊥) → (n ≡ 98 → ⊥) → (n ≡ 99 → ⊥) → Nameless n
+unfolding numberOf
+nameless n a b c d e f g h Enoent = a
+nameless n a b c d e f g h Ebusy = b
+nameless n a b c d e f g h Eexist = c
+nameless n a b c d e f g h Enodev = d
+nameless n a b c d e f g h Einval = e
+nameless n a b c d e f g h Enospc = f
+nameless n a b c d e f g h Eaddrinuse = g
+nameless n a b c d e f g h Eaddrnotavail = h
 
 -- the bytes of a mask are 32
 pub mask-long : (m : Bits) → length (maskBytes m) ≡ 32

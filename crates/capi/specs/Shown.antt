@@ -1,35 +1,72 @@
--- What the two functions with buffers leave: masks and listings.
+-- What a call leaves behind its pointers. Each record but the last takes what the function below promises of its result.
 -- Assumes nothing.
-use Prim.Native.Nat.{ℕ}
-use mathlib.Core.Bool.{cond}
+use Prim.Native.Nat.{ℕ, _-_}
 use mathlib.Core.List.{List, _++_}
 use mathlib.Core.Path.{_≡_}
-use lib.Dec.{eqb, ltb}
-use Rattle.mask.specs.Bits.{Bits, numbers}
-use Rattle.rules.specs.declared.Id.{Id}
-use Rattle.rules.specs.declared.Matrix.{Matrix}
-use Rattle.rules.specs.State.{Device, slots}
-use Rattle.rules.specs.Queues.{matrixAdapters, matrixDomains, matrixControls}
-use Rattle.rules.specs.Commands.{answered, slotOf}
-use Rattle.record.specs.Layout.{stateIn, deviceIn}
+use lib.ListN.{length, replicate}
+use denote.Ref.{RefT, now}
+use Rattle.errno.specs.declared.Errno.{Errno}
+use Rattle.errno.specs.Errno.{numberOf, nameOf}
+use Rattle.mask.specs.Bits.{Bits, bits, numbers}
+use Rattle.rules.specs.declared.Masks.{Masks}
+use Rattle.rules.specs.Commands.{answered}
+use Rattle.record.specs.Lent.{Lent}
+use Rattle.bind.specs.declared.Swept.{Swept}
+use Rattle.guest.specs.declared.Shown.{Shown}
 use Rattle.listing.specs.declared.Listed.{Listed}
-use Rattle.listing.specs.Listed.{Listing}
+use Rattle.capi.specs.Numbered.{bit}
+use Rattle.capi.specs.declared.Found.{Found}
+use Rattle.capi.specs.declared.Found.the-variants.{Case, Nothing}
+
+-- a lent number
+abbrev pub LentNumber : Type 0
+LentNumber = RefT ℕ
+
+-- a sweep: r is the moves used, and 1 or 0 is left for whether any remain
+pub record SweepShown (promise : Swept → Type 0) (more : LentNumber) (r : ℕ) : Type 0 where
+  pub swept : Swept
+  pub kept : promise swept
+  pub used : r ≡ swept .used
+  pub remain : now more ≡ bit (swept .more)
 
 -- a mask as 32 bytes in mask order
 unfoldable pub maskBytes : Bits → List ℕ
 maskBytes m = numbers 8 32 m 0
 
--- the three masks of a matrix of a device, 96 bytes
-unfoldable pub masksOf : List ℕ → List ℕ → Matrix → Device → List ℕ
-masksOf ws qs w v =
-    maskBytes (matrixAdapters w (stateIn ws qs) v) ++ (maskBytes (matrixDomains w (stateIn ws qs) v) ++ maskBytes (matrixControls w (stateIn ws qs) v))
+-- three masks, 96 bytes
+abbrev pub masksBytes : Masks → List ℕ
+masksBytes m = maskBytes (bits (m .adapters)) ++ (maskBytes (bits (m .domains)) ++ maskBytes (bits (m .controls)))
 
--- ENOENT where no device has the id, and then the buffer is as it was
-pub record MasksShown (ws qs : List ℕ) (i : Id) (w : Matrix) (before after : List ℕ) (r : ℕ) : Type 0 where
-  pub answer : r ≡ cond (ltb (slotOf i (deviceIn ws)) slots) 0 2
-  pub masks : after ≡ cond (eqb r 0) (masksOf ws qs w (deviceIn ws (slotOf i (deviceIn ws)))) before
+-- masks: r is the answer's errno value, and the buffer holds the masks, or what it held
+pub record MasksShown (promise : Shown → Type 0) (entry exit : Lent) (r : ℕ) : Type 0 where
+  pub shown : Shown
+  pub kept : promise shown
+  pub answer : r ≡ answered (shown .answer)
+  pub accepted : r ≡ 0 → now exit ≡ masksBytes (shown .masks)
+  pub refused : (r ≡ 0 → ⊥) → now exit ≡ now entry
 
--- a listing with its answer as an errno value
-unfoldable pub ListShown : List ℕ → List ℕ → Id → Matrix → ℕ → List ℕ → List ℕ → ℕ → ℕ → ℕ → Type 0
-ListShown ws qs i w place before after written next r =
-    (l : Listed) × Listing ws qs i w place before after l × (l .written ≡ written) × (l .next ≡ next) × (answered (l .answer) ≡ r)
+-- a listing: r is the answer's errno value, and the two numbers are those of the listing, or what they were
+pub record ListShown (promise : Listed → Type 0) (written written′ next next′ : LentNumber) (r : ℕ) : Type 0 where
+  pub listed : Listed
+  pub kept : promise listed
+  pub answer : r ≡ answered (listed .answer)
+  pub accepted : r ≡ 0 → (now written′ ≡ listed .written) × (now next′ ≡ listed .next)
+  pub refused : (r ≡ 0 → ⊥) → (now written′ ≡ now written) × (now next′ ≡ now next)
+
+-- no case has the value
+abbrev pub Nameless : ℕ → Type 0
+Nameless value = (e : Errno) → value ≡ numberOf e → ⊥
+
+-- the case that has a value
+unfoldable pub Finds : ℕ → Found → Type 0
+Finds value (Case e) = value ≡ numberOf e
+Finds value Nothing = Nameless value
+
+-- a name, then zeros up to 14 bytes
+abbrev pub padded : List ℕ → List ℕ
+padded name = name ++ replicate (14 - length name) 0
+
+-- the name of an errno value: r is its length; for any other number r is 0, and the buffer holds what it held
+pub record NameShown (value : ℕ) (entry exit : Lent) (r : ℕ) : Type 0 where
+  pub known : (e : Errno) → value ≡ numberOf e → (r ≡ length (nameOf e)) × (now exit ≡ padded (nameOf e))
+  pub unknown : Nameless value → (r ≡ 0) × (now exit ≡ now entry)

@@ -1,7 +1,7 @@
 // The C interface: include/zokormendu.h has the declarations. Each function takes its arguments apart and calls the
 // library's function of the same name.
 //
-// Rests on everything below.
+// Rests on errno, mask, maskbytes, fields, rules, record and the crates whose functions it exports.
 use errno::Errno;
 use mask::Apid;
 use mask::Apqi;
@@ -12,26 +12,25 @@ use rules::Id;
 use rules::Masks;
 use rules::Matrix;
 ghost use mathlib.Core.Path.{_≡_};
-ghost use mathlib.Core.Bool.{not, true, false};
-ghost use mathlib.Core.List.{_++_};
-ghost use Prim.Native.Nat.{_+_, _*_, _≤_, min};
+ghost use mathlib.Core.Bool.{cond};
+ghost use Prim.Native.Nat.{_+_, _≤_};
 ghost use lib.ListN.{length};
 ghost use lib.Seq.{paste};
 ghost use lib.Dec.{eqb};
 ghost use Rattle.mask.specs.Bits.{bits};
-ghost use Rattle.rules.specs.State.{queues};
-ghost use Rattle.rules.specs.Queues.{movedNumber, moveAnswer, remaining, movesUsed, mostMoves, usable};
-ghost use Rattle.rules.specs.Commands as Commands;
-ghost use Rattle.rules.specs.Commands.{slotOf, freeSlot};
-ghost use Rattle.record.specs.Layout.{stateIn, deviceIn, putDevice, putOpen, noId, apmaskAt, aqmaskAt};
-ghost use Rattle.record.specs.Carried.{Carried, Configured};
-ghost use Rattle.setup.specs.Fresh.{Freshened};
-ghost use Rattle.assign.specs.Numbers.{withNumber, withoutNumber};
-ghost use Rattle.host.specs.Masks.{withMask};
-ghost use Rattle.bind.specs.Moves.{moveBytes, sweepBytes};
-ghost use Rattle.encoding.specs.Encoding.{kindOf, configurationOf};
-ghost use Rattle.capi.specs.Numbered.{Numbered, idWith, bit, matrixOf, namePadded, nameLength};
-ghost use Rattle.capi.specs.Shown.{maskBytes, MasksShown, ListShown};
+ghost use Rattle.fields.specs.Fields.{kindOf, configurationOf};
+ghost use Rattle.rules.specs.Commands.{create, remove, openDevice, closeDevice, setApmask, setAqmask};
+ghost use Rattle.record.specs.Lent.{state};
+ghost use Rattle.record.specs.Carried.{Obeys};
+ghost use Rattle.setup.specs.Fresh.{Freshens};
+ghost use Rattle.devices.specs.Effects.{created, removed, opened, closed};
+ghost use Rattle.assign.specs.Numbers.{Assigns, Unassigns};
+ghost use Rattle.host.specs.Masks.{withApmask, withAqmask, Configures};
+ghost use Rattle.bind.specs.Moves.{Moves, Sweeps, Remains};
+ghost use Rattle.guest.specs.Masks.{Shows, usableWith};
+ghost use Rattle.listing.specs.Listed.{Listing};
+ghost use Rattle.capi.specs.Numbered.{Numbered, NumberedMove, idWith, queueWith, bit, matrixOf};
+ghost use Rattle.capi.specs.Shown.{SweepShown, maskBytes, masksBytes, MasksShown, ListShown, Finds, NameShown};
 
 // Makes the lent memory a fresh record.
 #[no_mangle]
@@ -41,7 +40,7 @@ pub extern "C" fn zk_fresh(
     adapter: u64,
     domain: u64,
 ) -> u8
-    ensures { λ r. ⌜ Numbered (Freshened adapter domain (now (words .entry)) (now (words .exit)) (now (drivers .entry)) (now (drivers .exit))) r ⌝ }
+    ensures { λ r. ⌜ Numbered (Freshens adapter domain (words .entry) (words .exit) (drivers .entry) (drivers .exit)) r ⌝ }
 {
     rules::answer_number(setup::fresh(words, drivers, adapter, domain))
 }
@@ -49,57 +48,64 @@ pub extern "C" fn zk_fresh(
 // The four of a device's life.
 #[no_mangle]
 pub extern "C" fn zk_create(words: &mut Words, hi: u64, lo: u64) -> u8
-    ensures { λ r. ⌜ Numbered (Carried (Commands.create (idWith hi lo)) (putDevice (now (words .entry)) (freeSlot (deviceIn (now (words .entry)))) true (idWith hi lo)) (now (words .entry)) (now (words .exit))) r ⌝ }
+    ensures { λ r. ⌜ Numbered (Obeys (create (idWith hi lo)) (created (idWith hi lo)) (words .entry) (words .exit)) r ⌝ }
 {
-    rules::answer_number(devices::create(words, id(hi, lo)))
+    rules::answer_number(devices::create(words, Id { hi: hi, lo: lo }))
 }
 
 #[no_mangle]
 pub extern "C" fn zk_remove(words: &mut Words, hi: u64, lo: u64) -> u8
-    ensures { λ r. ⌜ Numbered (Carried (Commands.remove (idWith hi lo)) (putDevice (now (words .entry)) (slotOf (idWith hi lo) (deviceIn (now (words .entry)))) false noId) (now (words .entry)) (now (words .exit))) r ⌝ }
+    ensures { λ r. ⌜ Numbered (Obeys (remove (idWith hi lo)) (removed (idWith hi lo)) (words .entry) (words .exit)) r ⌝ }
 {
-    rules::answer_number(devices::remove(words, id(hi, lo)))
+    rules::answer_number(devices::remove(words, Id { hi: hi, lo: lo }))
 }
 
 #[no_mangle]
 pub extern "C" fn zk_open(words: &mut Words, hi: u64, lo: u64) -> u8
-    ensures { λ r. ⌜ Numbered (Carried (Commands.openDevice (idWith hi lo)) (putOpen (now (words .entry)) (slotOf (idWith hi lo) (deviceIn (now (words .entry)))) true) (now (words .entry)) (now (words .exit))) r ⌝ }
+    ensures { λ r. ⌜ Numbered (Obeys (openDevice (idWith hi lo)) (opened (idWith hi lo)) (words .entry) (words .exit)) r ⌝ }
 {
-    rules::answer_number(devices::open(words, id(hi, lo)))
+    rules::answer_number(devices::open(words, Id { hi: hi, lo: lo }))
 }
 
 #[no_mangle]
 pub extern "C" fn zk_close(words: &mut Words, hi: u64, lo: u64) -> u8
-    ensures { λ r. ⌜ Numbered (Carried (Commands.closeDevice (idWith hi lo)) (putOpen (now (words .entry)) (slotOf (idWith hi lo) (deviceIn (now (words .entry)))) false) (now (words .entry)) (now (words .exit))) r ⌝ }
+    ensures { λ r. ⌜ Numbered (Obeys (closeDevice (idWith hi lo)) (closed (idWith hi lo)) (words .entry) (words .exit)) r ⌝ }
 {
-    rules::answer_number(devices::close(words, id(hi, lo)))
+    rules::answer_number(devices::close(words, Id { hi: hi, lo: lo }))
 }
 
 // Kind 0 is an adapter, 1 a domain, any other a control domain; the number is text.
 #[no_mangle]
 pub extern "C" fn zk_assign(words: &mut Words, hi: u64, lo: u64, kind: u8, text: &[u8]) -> u8
-    ensures { λ r. ⌜ Numbered (Carried (Commands.assign (kindOf kind) (idWith hi lo) (now (text .entry))) (withNumber (now (words .entry)) (kindOf kind) (idWith hi lo) (now (text .entry))) (now (words .entry)) (now (words .exit))) r ⌝ }
+    ensures { λ r. ⌜ Numbered (Assigns (kindOf kind) (idWith hi lo) (text .entry) (words .entry) (words .exit)) r ⌝ }
 {
-    rules::answer_number(assign::assign(words, encoding::kind_of(kind), id(hi, lo), text))
+    rules::answer_number(assign::assign(words, fields::kind_of(kind), Id { hi: hi, lo: lo }, text))
 }
 
 #[no_mangle]
 pub extern "C" fn zk_unassign(words: &mut Words, hi: u64, lo: u64, kind: u8, text: &[u8]) -> u8
-    ensures { λ r. ⌜ Numbered (Carried (Commands.unassign (kindOf kind) (idWith hi lo) (now (text .entry))) (withoutNumber (now (words .entry)) (kindOf kind) (idWith hi lo) (now (text .entry))) (now (words .entry)) (now (words .exit))) r ⌝ }
+    ensures { λ r. ⌜ Numbered (Unassigns (kindOf kind) (idWith hi lo) (text .entry) (words .entry) (words .exit)) r ⌝ }
 {
-    rules::answer_number(assign::unassign(words, encoding::kind_of(kind), id(hi, lo), text))
+    rules::answer_number(assign::unassign(
+        words,
+        fields::kind_of(kind),
+        Id { hi: hi, lo: lo },
+        text,
+    ))
 }
 
 #[no_mangle]
 pub extern "C" fn zk_set_apmask(words: &mut Words, text: &[u8]) -> u8
-    ensures { λ r. ⌜ Numbered (Carried (Commands.setApmask (now (text .entry))) (withMask (now (words .entry)) apmaskAt (now (text .entry))) (now (words .entry)) (now (words .exit))) r ⌝ }
+    ensures { λ r. ⌜ Numbered (Obeys (setApmask (now (text .entry))) (withApmask (now (text .entry)))
+        (words .entry) (words .exit)) r ⌝ }
 {
     rules::answer_number(host::set_apmask(words, text))
 }
 
 #[no_mangle]
 pub extern "C" fn zk_set_aqmask(words: &mut Words, text: &[u8]) -> u8
-    ensures { λ r. ⌜ Numbered (Carried (Commands.setAqmask (now (text .entry))) (withMask (now (words .entry)) aqmaskAt (now (text .entry))) (now (words .entry)) (now (words .exit))) r ⌝ }
+    ensures { λ r. ⌜ Numbered (Obeys (setAqmask (now (text .entry))) (withAqmask (now (text .entry)))
+        (words .entry) (words .exit)) r ⌝ }
 {
     rules::answer_number(host::set_aqmask(words, text))
 }
@@ -111,23 +117,23 @@ pub extern "C" fn zk_configure(
     drivers: &mut Drivers,
     configuration: &[u8; 352],
 ) -> u8
-    ensures { λ r. ⌜ Numbered (Configured (configurationOf (now (configuration .entry))) (now (words .entry)) (now (words .exit)) (now (drivers .entry)) (now (drivers .exit))) r ⌝ }
+    ensures { λ r. ⌜ Numbered (Configures (configurationOf (now (configuration .entry)))
+        (words .entry) (words .exit) (drivers .entry) (drivers .exit)) r ⌝ }
 {
-    rules::answer_number(host::configure(words, drivers, encoding::configuration_of(configuration)))
+    rules::answer_number(host::configure(words, drivers, fields::configuration_of(configuration)))
 }
 
 // 0 idle, 1 released, 2 bound to host, 3 bound to passthrough.
 #[no_mangle]
 pub extern "C" fn zk_move(words: &Words, drivers: &mut Drivers, apid: u8, apqi: u8) -> u8
-    ensures answer { λ r. ⌜ r ≡ movedNumber (moveAnswer (apid * 256 + apqi) (stateIn (now (words .entry)) (now (drivers .entry)))) ⌝ }
-    ensures drivers { λ r. ⌜ now (drivers .exit) ≡ moveBytes (now (words .entry)) (apid * 256 + apqi) (now (drivers .entry)) ⌝ }
+    ensures { λ r. ⌜ NumberedMove (Moves (queueWith apid apqi) (words .entry) (drivers .entry) (drivers .exit)) r ⌝ }
 {
     rules::moved_number(bind::move_queue(words, drivers, Apid(apid), Apqi(apqi)))
 }
 
 #[no_mangle]
 pub extern "C" fn zk_remaining(words: &Words, drivers: &Drivers) -> u32
-    ensures { λ r. ⌜ r ≡ remaining (stateIn (now (words .entry)) (now (drivers .entry))) ⌝ }
+    ensures { λ r. ⌜ Remains (words .entry) (drivers .entry) r ⌝ }
 {
     bind::remaining(words, drivers)
 }
@@ -135,9 +141,7 @@ pub extern "C" fn zk_remaining(words: &Words, drivers: &Drivers) -> u32
 // The moves used; more is then 1 where any remain, and 0 where none does.
 #[no_mangle]
 pub extern "C" fn zk_sweep(words: &Words, drivers: &mut Drivers, budget: u32, more: &mut u8) -> u32
-    ensures used { λ r. ⌜ r ≡ movesUsed budget (stateIn (now (words .entry)) (now (drivers .entry))) ⌝ }
-    ensures more { λ r. ⌜ now (more .exit) ≡ bit (not (eqb (remaining (stateIn (now (words .entry)) (now (drivers .exit)))) 0)) ⌝ }
-    ensures drivers { λ r. ⌜ now (drivers .exit) ≡ sweepBytes (now (words .entry)) queues 0 (min budget mostMoves) (now (drivers .entry)) ⌝ }
+    ensures { λ r. ⌜ SweepShown (Sweeps budget (words .entry) (drivers .entry) (drivers .exit)) (more .exit) r ⌝ }
 {
     let r = bind::sweep(words, drivers, budget);
     *more = flag(r.more);
@@ -154,9 +158,15 @@ pub extern "C" fn zk_usable(
     apid: u8,
     apqi: u8,
 ) -> u8
-    ensures { λ r. ⌜ r ≡ bit (usable (stateIn (now (words .entry)) (now (drivers .entry))) (deviceIn (now (words .entry)) (slotOf (idWith hi lo) (deviceIn (now (words .entry))))) (apid * 256 + apqi)) ⌝ }
+    ensures { λ r. ⌜ r ≡ bit (usableWith (idWith hi lo) (state (words .entry) (drivers .entry)) (queueWith apid apqi)) ⌝ }
 {
-    flag(guest::usable(words, drivers, id(hi, lo), Apid(apid), Apqi(apqi)))
+    flag(guest::usable(
+        words,
+        drivers,
+        Id { hi: hi, lo: lo },
+        Apid(apid),
+        Apqi(apqi),
+    ))
 }
 
 // Matrix 0 is what is assigned, any other what the guest gets: adapters, domains and control domains, 32 bytes each.
@@ -169,15 +179,17 @@ pub extern "C" fn zk_masks(
     matrix: u8,
     out: &mut [u8; 96],
 ) -> u8
-    ensures { λ r. ⌜ MasksShown (now (words .entry)) (now (drivers .entry)) (idWith hi lo) (matrixOf matrix) (now (out .entry)) (now (out .exit)) r ⌝ }
+    ensures { λ r. ⌜ MasksShown (Shows (state (words .entry) (drivers .entry)) (idWith hi lo) (matrixOf matrix))
+        (out .entry) (out .exit) r ⌝ }
 {
-    let shown = guest::masks(words, drivers, id(hi, lo), matrix_of(matrix));
+    let shown = guest::masks(words, drivers, Id { hi: hi, lo: lo }, matrix_of(matrix));
     let answer = shown.answer;
     let e = rules::answer_number(answer);
-    if e == 0 {
-        let m = shown.masks;
-        put_masks(m, out);
+    if 0 < e {
+        return e;
     }
+    let m = shown.masks;
+    put_masks(m, out);
     e
 }
 
@@ -194,31 +206,38 @@ pub extern "C" fn zk_list(
     written: &mut usize,
     next: &mut usize,
 ) -> u8
-    ensures { λ r. ⌜ ListShown (now (words .entry)) (now (drivers .entry)) (idWith hi lo) (matrixOf matrix) place (now (buf .entry)) (now (buf .exit)) (now (written .exit)) (now (next .exit)) r ⌝ }
+    ensures { λ r. ⌜ ListShown (Listing (state (words .entry) (drivers .entry)) (idWith hi lo) (matrixOf matrix) place
+        (now (buf .entry)) (now (buf .exit))) (written .entry) (written .exit) (next .entry) (next .exit) r ⌝ }
 {
-    let r = listing::list(words, drivers, id(hi, lo), matrix_of(matrix), place, buf);
-    *written = r.written;
-    *next = r.next;
+    let r = listing::list(
+        words,
+        drivers,
+        Id { hi: hi, lo: lo },
+        matrix_of(matrix),
+        place,
+        buf,
+    );
     let answer = r.answer;
-    rules::answer_number(answer)
+    let e = rules::answer_number(answer);
+    leave(e, r.written, written);
+    leave(e, r.next, next);
+    e
 }
 
 // The name of an errno value, padded with zeros, and its length; of any other number nothing, and 0.
 #[no_mangle]
 pub extern "C" fn zk_errno_name(value: u8, out: &mut [u8; 14]) -> usize
-    ensures length { λ r. ⌜ r ≡ nameLength value ⌝ }
-    ensures name { λ r. ⌜ now (out .exit) ≡ namePadded value ⌝ }
+    ensures { λ r. ⌜ NameShown value (out .entry) (out .exit) r ⌝ }
 {
-    let a = name_of(value);
-    let bytes = a.bytes;
-    *out = bytes;
-    a.len
-}
-
-fn id(hi: u64, lo: u64) -> Id
-    ensures { λ r. ⌜ r ≡ idWith hi lo ⌝ }
-{
-    Id { hi: hi, lo: lo }
+    match errno_of(value) {
+        Found::Case(e) => {
+            let name = errno::name(e);
+            let bytes = name.bytes;
+            *out = bytes;
+            name.len
+        }
+        Found::Nothing => 0,
+    }
 }
 
 fn flag(b: bool) -> u8
@@ -237,9 +256,18 @@ fn matrix_of(n: u8) -> Matrix
     }
 }
 
+// Leaves a number, unless the call is refused.
+fn leave(errno: u8, number: usize, out: &mut usize)
+    ensures { λ r. ⌜ now (out .exit) ≡ cond (eqb errno 0) number (now (out .entry)) ⌝ }
+{
+    if errno == 0 {
+        *out = number;
+    }
+}
+
 // Three masks, one after the other.
 fn put_masks(masks: Masks, out: &mut [u8; 96])
-    ensures { λ r. ⌜ now (out .exit) ≡ maskBytes (bits (masks .adapters)) ++ (maskBytes (bits (masks .domains)) ++ maskBytes (bits (masks .controls))) ⌝ }
+    ensures { λ r. ⌜ now (out .exit) ≡ masksBytes masks ⌝ }
 {
     let adapters = masks.adapters;
     let domains = masks.domains;
@@ -262,23 +290,24 @@ fn put_mask(mask: Mask, out: &mut [u8], at: usize)
     }
 }
 
-// The name of the case with a value; an empty one where there is none.
-fn name_of(value: u8) -> errno::Ascii
-    ensures length { λ r. ⌜ r .len ≡ nameLength value ⌝ }
-    ensures name { λ r. ⌜ r .bytes ≡ namePadded value ⌝ }
+// The case that has an errno value.
+enum Found {
+    Case(Errno),
+    Nothing,
+}
+
+fn errno_of(value: u8) -> Found
+    ensures { λ r. ⌜ Finds value r ⌝ }
 {
     match value {
-        2 => errno::name(Errno::Enoent),
-        16 => errno::name(Errno::Ebusy),
-        17 => errno::name(Errno::Eexist),
-        19 => errno::name(Errno::Enodev),
-        22 => errno::name(Errno::Einval),
-        28 => errno::name(Errno::Enospc),
-        98 => errno::name(Errno::Eaddrinuse),
-        99 => errno::name(Errno::Eaddrnotavail),
-        _ => errno::Ascii {
-            bytes: [0u8; 14],
-            len: 0,
-        },
+        2 => Found::Case(Errno::Enoent),
+        16 => Found::Case(Errno::Ebusy),
+        17 => Found::Case(Errno::Eexist),
+        19 => Found::Case(Errno::Enodev),
+        22 => Found::Case(Errno::Einval),
+        28 => Found::Case(Errno::Enospc),
+        98 => Found::Case(Errno::Eaddrinuse),
+        99 => Found::Case(Errno::Eaddrnotavail),
+        _ => Found::Nothing,
     }
 }

@@ -19,28 +19,10 @@ Inv-loop out₀ at b i₀ out i = (i ≤ 32) × (length out ≡ length out₀) �
 abbrev μ-loop : tie.MeasureT-loop
 μ-loop out₀ at b i₀ out i = 32 - i
 
-to-bytes-requires : tie.Need-to-bytes-requires Inv-loop μ-loop
-to-bytes-requires c κs = search needs
-
 loop-holds : tie.Need-loop-holds Inv-loop μ-loop
 loop-holds c =
     let a = c .before .before .args in
     (search needs, search needs, paste-zero (a .out .now) (a .at) (c .to-bytes .result))
-
-array-read-out : tie.Need-array-read-out Inv-loop μ-loop
-array-read-out c = search needs
-
-add-out : tie.Need-add-out Inv-loop μ-loop
-add-out c = search needs
-
-slice-write-out : tie.Need-slice-write-out Inv-loop μ-loop
-slice-write-out c = search needs
-
-add-i : tie.Need-add-i Inv-loop μ-loop
-add-i c = search needs
-
-loop-less : tie.Need-loop-less Inv-loop μ-loop
-loop-less c = search needs
 
 loop-again : tie.Need-loop-again Inv-loop μ-loop
 unfolding maskBytes
@@ -53,9 +35,6 @@ loop-again c =
       search needs,
       rw (l .inv .2, add-one) (paste-suc (a .out .now) (a .at) b (l .i) 0 (omega arith) (omega (arith, ap length bytes, mask-long (bits (a .mask))))),
     )
-
-same-length : tie.Need-same-length Inv-loop μ-loop
-same-length c = search needs
 
 returns : tie.Need-returns Inv-loop μ-loop
 unfolding maskBytes
@@ -70,13 +49,13 @@ put-mask-spec =
     (tie.spec
     Inv-loop
     μ-loop
-    to-bytes-requires
+    (λ c κs. search needs)
     loop-holds
-    array-read-out
-    add-out
-    slice-write-out
-    add-i
-    loop-less
+    (λ c. search needs)
+    (λ c. search needs)
+    (λ c. search needs)
+    (λ c. search needs)
+    (λ c. search needs)
     loop-again
-    same-length
+    (λ c. search needs)
     returns)

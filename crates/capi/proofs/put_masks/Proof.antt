@@ -13,15 +13,6 @@ use borrow.Author.Needs.{needs}
 use Rattle.capi.proofs.put_masks.Statement.{statement}
 use Rattle.capi.proofs.put_masks.Tie as tie
 
-put-mask-requires : tie.Need-put-mask-requires
-put-mask-requires c κs = search needs
-
-put-mask-requires-2 : tie.Need-put-mask-requires-2
-put-mask-requires-2 c κs = search needs
-
-put-mask-requires-3 : tie.Need-put-mask-requires-3
-put-mask-requires-3 c κs = search needs
-
 returns : tie.Need-returns
 returns c =
     let a = c .before .before .before .before .before .before .before .before .before .args in
@@ -36,4 +27,4 @@ returns c =
 
 pub put-masks-spec : {M : Type 1} → statement M
 put-masks-spec =
-    tie.close (tie.spec put-mask-requires put-mask-requires-2 put-mask-requires-3 returns)
+    tie.close (tie.spec (λ c κs. search needs) (λ c κs. search needs) (λ c κs. search needs) returns)
