@@ -28,7 +28,12 @@ pub fn run(
 }
 
 // Carries out the requests on a record as it is.
-pub fn carry_out(words: &mut Words, drivers: &mut Drivers, steps: &[u8], answers: &mut [u8]) -> usize
+pub fn carry_out(
+    words: &mut Words,
+    drivers: &mut Drivers,
+    steps: &[u8],
+    answers: &mut [u8],
+) -> usize
     ensures { λ r. ⌜ CarriesOut (steps .entry) (answers .entry) (answers .exit)
         (words .entry) (words .exit) (drivers .entry) (drivers .exit) r ⌝ }
 {
