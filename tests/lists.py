@@ -1,12 +1,13 @@
 #!/usr/bin/env python3
-"""The list of commands and moves that crates/lists carries out, and what it must print, by the Python model of
-tests/service.py. `lists.py stdin` writes the list, `lists.py stdout` the output. A sweep stands in the list as its moves."""
+"""The list of commands, moves and sweeps that crates/lists carries out, and what it must print, by the Python model of
+tests/service.py. `lists.py stdin` writes the list, `lists.py stdout` the output. Of the sweeps some are asked for as such,
+and some stand in the list as the moves that they make. The list ends with guests that have queues, and moves due."""
 import random
 import sys
 
 from service import Service
 
-OPS = ("create", "remove", "open", "close", "assign", "unassign", "apmask", "aqmask", "configure", "move")
+OPS = ("create", "remove", "open", "close", "assign", "unassign", "apmask", "aqmask", "configure", "move", "sweep")
 KINDS = ("adapter", "domain", "control")
 MOVED = {"idle": 0, "released": 1, "host": 2, "passthrough": 3}
 
@@ -27,6 +28,21 @@ def packed(bits):
 def move(a, d):
     put("move", queue=(a, d))
     answers.append(MOVED[s.move(a, d)])
+
+
+def sweep(budget):
+    data.extend(bytes([OPS.index("sweep"), 0]) + budget.to_bytes(4, "big") + bytes(14))
+    answers.append(1 if s.sweep(budget)[1] else 0)
+
+
+def configure(adapters, domains, controls, types):
+    put("configure", payload=packed(adapters) + packed(domains) + packed(controls) + bytes(types))
+    answers.append(s.configure(adapters, domains, controls, types))
+
+
+def assign(kind, name, text):
+    put("assign", KINDS.index(kind), name, text)
+    answers.append(s.assign(kind, name, text))
 
 
 def plain(what, name):
@@ -50,7 +66,7 @@ host_mask("aqmask", b"-4,-0x47,-0xab,-0xff\n")
 NUMBERS = {"adapter": (b"5", b"6", b"0x5\n", b"7", b"256"), "domain": (b"4", b"0x47", b"0xab", b"0253", b"5", b"08"), "control": (b"4", b"71", b"", b"300")}
 MASKS = (b"-5", b"+5", b"-5,-6\n", b"+6", b"-4", b"+4", b"-0x47,-0xab,-0xff", b"+0xab", b"0xf9" + b"f" * 62, b"0xg", b"+5,")
 for _ in range(420):
-    what = rng.choices(OPS, (3, 1, 3, 3, 20, 4, 3, 3, 2, 20))[0]
+    what = rng.choices(OPS, (3, 1, 3, 3, 20, 4, 3, 3, 2, 20, 2))[0]
     name, kind = rng.randrange(1, 4), rng.randrange(3)
     if what in ("create", "remove", "open", "close"):
         plain(what, name)
@@ -63,9 +79,10 @@ for _ in range(420):
     elif what == "configure":
         masks = [set(rng.sample(pool, rng.randrange(1, 4))) for pool in ((5, 6, 7), (4, 0x47, 0xab), (4, 0x47, 0xff))]
         types = [rng.choice((9, 10, 11)) for _ in range(256)]
-        put(what, payload=b"".join(packed(m) for m in masks) + bytes(types))
-        answers.append(s.configure(*masks, types))
-    elif rng.random() < 0.15:
+        configure(*masks, types)
+    elif what == "sweep":
+        sweep(rng.choice((0, 1, 2, 3, 7, 131072, 131073, 2 ** 32 - 1)))
+    elif rng.random() < 0.1:
         # a sweep, as the moves that it makes
         for a in range(256):
             for d in range(256):
@@ -73,6 +90,29 @@ for _ in range(420):
                     move(a, d)
     else:
         move(rng.choice((5, 6, 7)), rng.choice((4, 0x47, 0xab)))
+
+# the end: three guests, two of them running, that have queues already; then moves are due for other queues
+host_mask("apmask", b"0x0")
+host_mask("aqmask", b"0x0")
+configure({5, 6, 7}, {4, 0x47, 0xab}, {4, 0x47}, [11] * 256)
+sweep(131072)
+for name in (1, 2, 3):
+    plain("close", name)
+    plain("remove", name)
+    plain("create", name)
+for kind, name, text in (
+    ("adapter", 1, b"5"), ("adapter", 1, b"6"), ("domain", 1, b"4"), ("domain", 1, b"0xab"), ("control", 1, b"0x47"),
+    ("adapter", 2, b"5"), ("adapter", 2, b"6"), ("domain", 2, b"0x47"), ("control", 2, b"4"), ("control", 2, b"5"),
+    ("adapter", 3, b"7"), ("domain", 3, b"4"), ("domain", 3, b"0x47"), ("domain", 2, b"4"), ("adapter", 3, b"6"),
+):
+    assign(kind, name, text)
+plain("open", 1)
+plain("open", 2)
+configure({5, 6}, {4, 0x47, 0xab}, {4, 0x47}, [11] * 256)
+configure({5, 6, 7}, {4, 0x47, 0xab}, {4, 0x47}, [11] * 256)
+host_mask("aqmask", b"+0xab")
+host_mask("apmask", b"+7")
+sweep(1)
 data.extend(b"\x00\x00")  # no whole step is left
 
 lines = [f"steps {len(answers)}"] + [str(a) for a in answers]
@@ -88,6 +128,8 @@ def left():
         for masks in ((v.has["adapter"], v.has["domain"], v.has["control"]), s.guest(v)):
             for word, bits in zip((" adapters", " domains", " controls"), masks):
                 lines.append("".join([word] + [f" {n}" for n in sorted(bits)]))
+            lines.extend(f"{a:02x}.{d:04x}" for a in sorted(masks[0]) for d in sorted(masks[1]))
+            lines.append(" next 65536")
 
 
 left()

@@ -1,104 +1,89 @@
-// Carries out a list of commands and moves from standard input, and prints the answers and what the list left. The list
-// and the expected output are made by tests/lists.py, with the Python model of tests/service.py.
-use mask::Mask;
+// Carries out a list of commands, moves and sweeps from standard input, and prints the answers, and what the list left
+// before and after one more sweep. The list and the expected output are made by tests/lists.py.
+use mask::Apid;
+use mask::Apqi;
+use record::Drivers;
+use record::QUEUES;
 use record::WORDS;
+use record::Words;
 use rules::Id;
 use rules::Masks;
 use rules::Matrix;
 
-const OUT: i32 = 1;
-
 fn main() {
-    let mut s = [0u64; WORDS];
-    let mut q = [0u8; 65536];
+    let mut words = [0u64; WORDS];
+    let mut drivers = [0u8; QUEUES];
     let mut steps = [0u8; 32768];
     let mut answers = [255u8; 640];
     let got = io::read_full(0, &mut steps);
     if got < 32769 {
-        let n = run::run(&mut s, &mut q, 255, 255, &steps[..got], &mut answers);
-        number(b"steps ", n as u64);
+        let n = run::run(
+            &mut words,
+            &mut drivers,
+            Apid(255),
+            Apqi(255),
+            &steps[..got],
+            &mut answers,
+        );
+        print::number(b"steps ", n as u64);
         print_answers(answers, n);
     }
-    left(&s, &q);
-    let r = bind::sweep(&s, &mut q, 131072);
-    number(b"sweep ", r.used as u64);
-    left(&s, &q);
+    left(&words, &drivers);
+    let r = bind::sweep(&words, &mut drivers, 131072);
+    print::number(b"sweep ", r.used as u64);
+    left(&words, &drivers);
 }
 
 // The first n answers.
 fn print_answers(answers: [u8; 640], n: usize) {
-    let mut i = 0usize;
-    while i < 640 {
+    for i in 0..640usize {
         if i < n {
             one(answers[i]);
         }
-        i += 1;
     }
 }
 
 fn one(answer: u8) {
-    number(b"", answer as u64);
+    print::number(b"", answer as u64);
 }
 
-// The moves remaining, and the masks of the devices.
-fn left(s: &[u64; WORDS], q: &[u8; 65536]) {
-    number(b"remaining ", bind::remaining(s, q) as u64);
-    known(s, q);
-}
-
-fn known(s: &[u64; WORDS], q: &[u8; 65536]) {
-    let mut n = 1u64;
-    while n < 10 {
-        device(s, q, n);
-        n += 1;
+// The moves remaining, and the matrices of the devices.
+fn left(words: &Words, drivers: &Drivers) {
+    print::number(b"remaining ", bind::remaining(words, drivers) as u64);
+    for n in 1..10u64 {
+        device(words, drivers, n);
     }
 }
 
-fn device(s: &[u64; WORDS], q: &[u8; 65536], n: u64) {
-    let p = lookup::find(s, Id { hi: 0, lo: n });
-    if record::present(s, p) {
-        number(b"device ", n);
-        if record::is_open(s, p) {
-            io::write_all(OUT, b" open\n");
+fn device(words: &Words, drivers: &Drivers, n: u64) {
+    let id = Id { hi: 0, lo: n };
+    let slot = lookup::find(words, id);
+    if record::present(words, slot) {
+        print::number(b"device ", n);
+        if record::is_open(words, slot) {
+            print::text(b" open\n");
         }
-        masks(guest::masks_at(s, q, p, Matrix::Assigned));
-        masks(guest::masks_at(s, q, p, Matrix::Guest));
+        matrix(words, drivers, id, Matrix::Assigned);
+        matrix(words, drivers, id, Matrix::Guest);
     }
+}
+
+// A matrix as masks, and as its listing, of which 32 lines are room enough.
+fn matrix(words: &Words, drivers: &Drivers, id: Id, which: Matrix) {
+    let shown = guest::masks(words, drivers, id, which);
+    let m = shown.masks;
+    masks(m);
+    let mut lines = [0u8; 256];
+    let listed = listing::list(words, drivers, id, which, 0, &mut lines);
+    print::first(&lines, listed.written);
+    print::number(b" next ", listed.next as u64);
 }
 
 fn masks(m: Masks) {
     let adapters = m.adapters;
     let domains = m.domains;
     let controls = m.controls;
-    bits(b" adapters", adapters);
-    bits(b" domains", domains);
-    bits(b" controls", controls);
-}
-
-// The set bits of a mask, in decimal.
-fn bits(label: &[u8], m: Mask) {
-    io::write_all(OUT, label);
-    set_bits(m);
-    io::write_all(OUT, b"\n");
-}
-
-fn set_bits(m: Mask) {
-    let mut i = 0usize;
-    while i < 256 {
-        bit(m, (i % 256) as u8);
-        i += 1;
-    }
-}
-
-fn bit(m: Mask, i: u8) {
-    if m.has(i) {
-        io::write_all(OUT, b" ");
-        io::print_decimal(OUT, i as u64);
-    }
-}
-
-fn number(label: &[u8], n: u64) {
-    io::write_all(OUT, label);
-    io::print_decimal(OUT, n);
-    io::write_all(OUT, b"\n");
+    print::mask_bits(b" adapters", adapters);
+    print::mask_bits(b" domains", domains);
+    print::mask_bits(b" controls", controls);
 }
