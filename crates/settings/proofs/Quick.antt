@@ -1,13 +1,14 @@
 -- The rules in a form that computes: a test over all queues is one over adapters and one over domains.
 -- Assumes nothing.
 use Prim.Native.Nat.{ℕ}
-use mathlib.Core.Bool.{Bool, cond, not, _&&_}
+use mathlib.Core.Bool.{Bool, true, false, cond, not, _&&_, and-false}
 use mathlib.Core.List.{List, [], _∷_}
 use mathlib.Core.Path.{_≡_, refl, sym, ap, ap₂, _∙_, fun-ext}
 use lib.Dec.{eqb, leb}
 use Rattle.errno.specs.Outcome.{Outcome, granted, refused}
 use Rattle.errno.specs.declared.Errno.the-variants.{Enodev, Eaddrinuse, Eaddrnotavail}
 use Rattle.mask.specs.Bits.{Bits, someBelow, both, noBits, included}
+use Rattle.mask.proofs.Laws.{none-some, some-cong}
 use Rattle.number.specs.Text.{numberText}
 use Rattle.masktext.specs.Text.{maskText}
 use Rattle.rules.specs.declared.Kind.{Kind}
@@ -16,7 +17,7 @@ use Rattle.rules.specs.State.{HostMasks, Device, Devices, State, slots, queues,
 use Rattle.rules.specs.Queues as Queues
 use Rattle.rules.specs.Queues.{reserved}
 use Rattle.rules.specs.Commands as Commands
-use Rattle.rules.specs.Commands.{errnoOf, stateAfter, onDevice, reading, numbersOf, withNumbers, withDevice, withHost, limitOf, single, paired, adding, assignAt, setHost, assignedElsewhere}
+use Rattle.rules.specs.Commands.{errnoOf, stateAfter, onDevice, reading, numbersOf, withNumbers, withDevice, withHost, limitOf, single, paired, adding, assignAt, setHost, product, assignedElsewhere}
 use Rattle.rules.proofs.Products.{products-meet, taken-by, elsewhere-anywhere}
 use Rattle.model.specs.Steps.{Command, create, remove, openIt, closeIt, assign, unassign, setApmask, setAqmask, configure, Step, command, move, queueOf, rule, after, afterAll, answers}
 
@@ -49,6 +50,25 @@ host-quick : (us ds : Bits) (h : HostMasks) → someBelow queues (both (inProduc
 unfolding meetsHost reserved
 host-quick us ds h = products-meet us ds (h .apmask) (h .aqmask)
 
+-- a device's queues
+device-quick : (us ds : Bits) (v : Device)
+    → someBelow queues (both (inProduct us ds) (product v)) ≡ (v .present && (someBelow 256 (both us (v .adapters)) && someBelow 256 (both ds (v .domains))))
+unfolding product both
+device-quick us ds v = go (v .present)
+  where
+    go : (b : Bool) → someBelow queues (λ q. inProduct us ds q && (b && inProduct (v .adapters) (v .domains) q))
+        ≡ (b && (someBelow 256 (λ i. us i && v .adapters i) && someBelow 256 (λ i. ds i && v .domains i)))
+    go true = products-meet us ds (v .adapters) (v .domains)
+    go false = none-some queues (λ q. inProduct us ds q && false) (λ q h. and-false (inProduct us ds q))
+
+elsewhere-quick : (us ds : Bits) (p : ℕ) (vs : Devices) → someBelow queues (both (inProduct us ds) (assignedElsewhere p vs)) ≡ meetsElsewhere us ds p vs
+unfolding meetsElsewhere
+elsewhere-quick us ds p vs =
+    taken-by p vs (inProduct us ds)
+    ∙ some-cong slots (λ j. not (eqb j p) && someBelow queues (both (inProduct us ds) (product (vs j))))
+    (λ j. not (eqb j p) && (vs j .present && (someBelow 256 (both us (vs j .adapters)) && someBelow 256 (both ds (vs j .domains)))))
+    (λ j h. ap (λ (b : Bool). not (eqb j p) && b) (device-quick us ds (vs j)))
+
 -- assigning
 unfoldable pub quickAssignAt : Kind → ℕ → ℕ → State → Outcome State
 quickAssignAt k n p s =
@@ -58,14 +78,14 @@ quickAssignAt k n p s =
     (granted (withDevice p (withNumbers k (included n (numbersOf k (s .device p))) (s .device p)) s))))
 
 assign-quick : (k : Kind) (n p : ℕ) (s : State) → assignAt k n p s ≡ quickAssignAt k n p s
-unfolding assignAt quickAssignAt adding meetsElsewhere
+unfolding assignAt quickAssignAt adding
 assign-quick k n p s =
     ap (λ (new : Bits). cond (numbersOf k (s .device p) n) (granted s)
     (cond (someBelow queues (both new (reserved (s .host)))) (refused Eaddrnotavail) (cond (someBelow queues (both new (assignedElsewhere p (s .device)))) (refused Eaddrinuse) (granted t))))
     (paired-product k n (s .device p))
     ∙ ap₂ (λ (x y : Bool). cond (numbersOf k (s .device p) n) (granted s) (cond x (refused Eaddrnotavail) (cond y (refused Eaddrinuse) (granted t))))
     (host-quick (pairedAdapters k n (s .device p)) (pairedDomains k n (s .device p)) (s .host))
-    (taken-by p (s .device) (pairedAdapters k n (s .device p)) (pairedDomains k n (s .device p)))
+    (elsewhere-quick (pairedAdapters k n (s .device p)) (pairedDomains k n (s .device p)) p (s .device))
   where
     t : State
     t = withDevice p (withNumbers k (included n (numbersOf k (s .device p))) (s .device p)) s
@@ -75,10 +95,10 @@ unfoldable pub quickSetHost : HostMasks → State → Outcome State
 quickSetHost h s = cond (meetsElsewhere (h .apmask) (h .aqmask) slots (s .device)) (refused Eaddrinuse) (granted (withHost h s))
 
 host-mask-quick : (h : HostMasks) (s : State) → setHost h s ≡ quickSetHost h s
-unfolding setHost quickSetHost reserved meetsElsewhere
+unfolding setHost quickSetHost reserved
 host-mask-quick h s =
     ap (λ (a : Bits). cond (someBelow queues (both (inProduct (h .apmask) (h .aqmask)) a)) (refused Eaddrinuse) (granted (withHost h s))) (sym (elsewhere-anywhere (s .device)))
-    ∙ ap (λ (b : Bool). cond b (refused Eaddrinuse) (granted (withHost h s))) (taken-by slots (s .device) (h .apmask) (h .aqmask))
+    ∙ ap (λ (b : Bool). cond b (refused Eaddrinuse) (granted (withHost h s))) (elsewhere-quick (h .apmask) (h .aqmask) slots (s .device))
 
 -- a command's rule
 unfoldable pub quickRule : Command → State → Outcome State
