@@ -1,5 +1,5 @@
-// Calls every function of the service, and prints what each answers. The expected output is made by tests/cases.py, with
-// a model in Python that is written from 01.
+// Calls every function of the service, and prints what each answers. The expected output is made by tests/cases.py,
+// with a model in Python that is written from 01.
 use guest::Shown;
 use listing::Listed;
 use mask::Apid;
