@@ -88,18 +88,16 @@ fn each(words: &mut Words, drivers: &mut Drivers, rows: &[u8]) {
     let mut i = 0usize;
     while i < rows.len() {
         if rows[i] == b';' {
-            if start + 3 <= i {
-                step(
-                    words,
-                    drivers,
-                    rows[start],
-                    rows[start + 1],
-                    &rows[start + 3..i],
-                );
-            }
+            row(words, drivers, &rows[start..i]);
             start = i + 1;
         }
         i += 1;
+    }
+}
+
+fn row(words: &mut Words, drivers: &mut Drivers, row: &[u8]) {
+    if 3 <= row.len() {
+        step(words, drivers, row[0], row[1], &row[3..]);
     }
 }
 
