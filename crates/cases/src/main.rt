@@ -1,5 +1,5 @@
-// Calls every function of the service, and prints what each answers. The expected output is made by tests/cases.py, with
-// a model in Python that is written from 01.
+// Calls every function of the service, and prints what each answers. The expected output is made by tests/cases.py,
+// with a model in Python that is written from 01.
 use guest::Shown;
 use listing::Listed;
 use mask::Apid;
@@ -17,58 +17,69 @@ use rules::Kind;
 use rules::Matrix;
 use rules::Moved;
 
-// A row is a letter that says what is called, and the words that are printed before the answer. The arguments are among
-// these words. A row of the letter # only prints its words.
+// A row is two letters, for a group of functions and for one of them, and the words that are printed before its answer.
+// The arguments are among these words. A row of the letters ## only prints its words.
 fn main() {
     let mut words = [0u64; WORDS];
     let mut drivers = [0u8; QUEUES];
     each(
         &mut words,
         &mut drivers,
-        b"f fresh 256 255;f fresh 255 256;f fresh 63 15;\
-        g configure 10 +63 +15 +15;g configure 10 +64 +15 +15;g configure 10 +63 +16 +15;g configure 10 +63 +15 +16;\
-        c create 1;a assign 1 adapter 63;a assign 1 adapter 64;a assign 1 domain 16;a assign 1 control 16;u unassign 1 domain 16;\
-        # setting 14;\
-        f fresh 255 255;c create 1;c create 2;c create 3;c create 4;c create 5;c create 6;c create 7;c create 8;c create 9;c create 1;\
-        r remove 4;c create 9;i slot 9;r remove 6;r remove 2;c create 10;i slot 10;r remove 2;i slot 2;\
-        x close 1;o open 1;o open 1;r remove 1;x close 1;r remove 1;o open 1;x close 1;\
-        a assign 1 adapter 08;a assign 1 adapter 256;a assign 3 adapter 256;a assign 3 adapter 0xff\n;a assign 3 adapter 255;\
-        u unassign 3 adapter 0377;u unassign 3 adapter 0377;u unassign 3 control 256;u unassign 1 control 256;u unassign 1 control x;\
-        p apmask 0x;q aqmask +1,;\
-        # setting 7;\
-        f fresh 255 255;c create 1;a assign 1 adapter 5;a assign 1 domain 4;\
-        # setting 11;\
-        p apmask -5\n;a assign 1 domain 4;p apmask +5;q aqmask -4;p apmask +5;q aqmask +4;p apmask -5;\
-        # setting 5;\
-        f fresh 255 255;p apmask 0x0;q aqmask 0x0;c create 1;c create 2;\
-        a assign 1 adapter 1;a assign 1 adapter 2;a assign 1 domain 5;a assign 1 domain 6;\
-        a assign 2 adapter 1;a assign 2 adapter 2;a assign 2 domain 7;\
-        # setting 6;\
-        a assign 2 domain 6;a assign 2 control 6;a assign 1 control 6;u unassign 2 adapter 1;u unassign 2 adapter 2;a assign 2 domain 6;\
-        a assign 2 adapter 2;r remove 1;a assign 2 adapter 2;\
-        # setting 12;\
-        f fresh 255 255;p apmask 0x04;q aqmask 0x02;c create 1;c create 2;a assign 1 adapter 5;a assign 1 domain 4;\
-        a assign 2 domain 4;a assign 2 domain 6;a assign 2 adapter 5;u unassign 2 domain 6;a assign 2 adapter 5;\
-        # setting 13;\
-        f fresh 255 255;g configure 10 +5 +4 0x0;t target 5 4;m move 5 4;p apmask -5;t target 5 4;\
-        n remaining;s sweep 0;m move 5 4;n remaining;m move 5 4;n remaining;m move 5 4;m move 7 4;\
-        g configure 9 +5 +4 0x0;t target 5 4;m move 5 4;t target 4 5;\
-        # budgets;\
-        f fresh 255 255;g configure 10 +5,+6 +4,+171 +71;s sweep 0;s sweep 3;s sweep 4294967295;s sweep 5;\
-        p apmask -5,-6;n remaining;s sweep 5;m move 6 4;s sweep 131072;n remaining;\
-        # setting 9;\
-        f fresh 255 255;p apmask -5,-6;g configure 10 +5,+6 +4,+171 +71;c create 1;\
-        a assign 1 adapter 5;a assign 1 adapter 6;a assign 1 domain 4;a assign 1 domain 0xab;a assign 1 control 71;a assign 1 control 72;\
-        k masks 1 assigned;k masks 1 guest;s sweep 3;k masks 1 guest;l list 1 assigned 0 32;l list 1 guest 0 32;j lines 1 assigned;j lines 1 guest;\
-        y usable 1 5 171;o open 1;y usable 1 5 171;y usable 1 6 4;y usable 1 5 5;y usable 2 5 171;\
-        # setting 10;\
-        g configure 10 +5,+6 +4 +71;k masks 1 guest;\
-        # a sweep;\
-        g configure 10 +5,+6 +4,+171 +71;k masks 1 guest;m move 5 171;k masks 1 guest;y usable 1 6 4;\
-        s sweep 131072;k masks 1 guest;y usable 1 6 4;k masks 2 guest;\
-        # the listing of 01;\
-        j lines 1 guest;l list 1 guest 0 32;l list 1 guest 0 20;l list 1 guest 1452 20;l list 1 guest 1452 16;l list 1 guest 0 7;l list 2 guest 0 7;\
-        l list 1 guest 65536 32;l list 1 guest 65535 32;l list 1 guest 18446744073709551615 32;",
+        b"hf fresh 256 255;hf fresh 255 256;hf fresh 63 15;\
+        hg configure 10 +63 +15 +15;hg configure 10 +64 +15 +15;hg configure 10 +63 +16 +15;\
+        hg configure 10 +63 +15 +16;\
+        dc create 1;aa assign 1 adapter 63;aa assign 1 adapter 64;aa assign 1 domain 16;aa assign 1 control 16;\
+        au unassign 1 domain 16;\
+        ## setting 14;\
+        hf fresh 255 255;dc create 1;dc create 2;dc create 3;dc create 4;dc create 5;dc create 6;dc create 7;\
+        dc create 8;dc create 9;dc create 1;\
+        dr remove 4;dc create 9;mi slot 9;dr remove 6;dr remove 2;dc create 10;mi slot 10;dr remove 2;mi slot 2;\
+        dx close 1;do open 1;do open 1;dr remove 1;dx close 1;dr remove 1;do open 1;dx close 1;\
+        aa assign 1 adapter 08;aa assign 1 adapter 256;aa assign 3 adapter 256;aa assign 3 adapter 0xff\n;\
+        aa assign 3 adapter 255;\
+        au unassign 3 adapter 0377;au unassign 3 adapter 0377;au unassign 3 control 256;\
+        au unassign 1 control 256;au unassign 1 control x;\
+        hp apmask 0x;hq aqmask +1,;\
+        ## setting 7;\
+        hf fresh 255 255;dc create 1;aa assign 1 adapter 5;aa assign 1 domain 4;\
+        ## setting 11;\
+        hp apmask -5\n;aa assign 1 domain 4;hp apmask +5;hq aqmask -4;hp apmask +5;hq aqmask +4;hp apmask -5;\
+        ## setting 5;\
+        hf fresh 255 255;hp apmask 0x0;hq aqmask 0x0;dc create 1;dc create 2;\
+        aa assign 1 adapter 1;aa assign 1 adapter 2;aa assign 1 domain 5;aa assign 1 domain 6;\
+        aa assign 2 adapter 1;aa assign 2 adapter 2;aa assign 2 domain 7;\
+        ## setting 6;\
+        aa assign 2 domain 6;aa assign 2 control 6;aa assign 1 control 6;au unassign 2 adapter 1;\
+        au unassign 2 adapter 2;aa assign 2 domain 6;\
+        aa assign 2 adapter 2;dr remove 1;aa assign 2 adapter 2;\
+        ## setting 12;\
+        hf fresh 255 255;hp apmask 0x04;hq aqmask 0x02;dc create 1;dc create 2;aa assign 1 adapter 5;\
+        aa assign 1 domain 4;\
+        aa assign 2 domain 4;aa assign 2 domain 6;aa assign 2 adapter 5;au unassign 2 domain 6;\
+        aa assign 2 adapter 5;\
+        ## setting 13;\
+        hf fresh 255 255;hg configure 10 +5 +4 0x0;qt target 5 4;qm move 5 4;hp apmask -5;qt target 5 4;\
+        qn remaining;qs sweep 0;qm move 5 4;qn remaining;qm move 5 4;qn remaining;qm move 5 4;qm move 7 4;\
+        hg configure 9 +5 +4 0x0;qt target 5 4;qm move 5 4;qt target 4 5;\
+        ## budgets;\
+        hf fresh 255 255;hg configure 10 +5,+6 +4,+171 +71;qs sweep 0;qs sweep 3;qs sweep 4294967295;qs sweep 5;\
+        hp apmask -5,-6;qn remaining;qs sweep 5;qm move 6 4;qs sweep 131072;qn remaining;\
+        ## setting 9;\
+        hf fresh 255 255;hp apmask -5,-6;hg configure 10 +5,+6 +4,+171 +71;dc create 1;\
+        aa assign 1 adapter 5;aa assign 1 adapter 6;aa assign 1 domain 4;aa assign 1 domain 0xab;\
+        aa assign 1 control 71;aa assign 1 control 72;\
+        mk masks 1 assigned;mk masks 1 guest;qs sweep 3;mk masks 1 guest;ml list 1 assigned 0 32;\
+        ml list 1 guest 0 32;mj lines 1 assigned;mj lines 1 guest;\
+        my usable 1 5 171;do open 1;my usable 1 5 171;my usable 1 6 4;my usable 1 5 5;my usable 2 5 171;\
+        ## setting 10;\
+        hg configure 10 +5,+6 +4 +71;mk masks 1 guest;\
+        ## a sweep;\
+        hg configure 10 +5,+6 +4,+171 +71;mk masks 1 guest;qm move 5 171;mk masks 1 guest;my usable 1 6 4;\
+        qs sweep 131072;mk masks 1 guest;my usable 1 6 4;mk masks 2 guest;\
+        ## the listing of 01;\
+        mj lines 1 guest;ml list 1 guest 0 32;ml list 1 guest 0 20;ml list 1 guest 1452 20;\
+        ml list 1 guest 1452 16;ml list 1 guest 0 7;ml list 2 guest 0 7;\
+        ml list 1 guest 65536 32;ml list 1 guest 65535 32;ml list 1 guest 18446744073709551615 32;",
     );
 }
 
@@ -85,22 +96,21 @@ fn each(words: &mut Words, drivers: &mut Drivers, rows: &[u8]) {
 }
 
 fn row(words: &mut Words, drivers: &mut Drivers, row: &[u8]) {
-    if 2 <= row.len() {
-        let s = &row[2..];
-        print::escaped(s);
-        step(words, drivers, row[0], s);
+    if 3 <= row.len() {
+        step(words, drivers, row[0], row[1], &row[3..]);
     }
 }
 
-fn step(words: &mut Words, drivers: &mut Drivers, letter: u8, s: &[u8]) {
+fn step(words: &mut Words, drivers: &mut Drivers, group: u8, letter: u8, s: &[u8]) {
+    print::escaped(s);
     let id = id(s);
-    match letter {
-        b'#' => end(b"\n"),
-        b'c' | b'r' | b'o' | b'x' => answer(device(words, letter, id)),
-        b'a' | b'u' => answer(assign(words, letter, id, s)),
-        b'f' | b'p' | b'q' | b'g' => answer(host(words, drivers, letter, s)),
-        b'm' | b't' | b's' | b'n' => queues(words, drivers, letter, s),
-        _ => shows(words, drivers, letter, id, s),
+    match group {
+        b'd' => answer(device(words, letter, id)),
+        b'a' => answer(assign(words, letter, id, s)),
+        b'h' => answer(host(words, drivers, letter, s)),
+        b'q' => queues(words, drivers, letter, s),
+        b'm' => shows(words, drivers, letter, id, s),
+        _ => end(b"\n"),
     }
 }
 

@@ -1,5 +1,5 @@
-// What the programs print with. The text is made by functions whose contracts pin it; text and first hand it to standard
-// output, and answer how many bytes they handed over. What arrives there no contract can say.
+// What the programs print with. All of it goes to standard output, and no contract can say what arrives there: those
+// here say how much was handed over, or what it was made from.
 //
 // Rests on errno, mask, maskbytes and rules, and on the kit's io.
 use errno::Errno;
