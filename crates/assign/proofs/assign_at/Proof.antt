@@ -1,28 +1,23 @@
 -- `assign_at` meets its contract: a return for each case of the rule.
 -- Assumes nothing.
 use Prim.Native.Nat.{ℕ}
-use mathlib.Core.Path.{refl, sym, ap, _∙_}
+use mathlib.Core.Bool.{true}
+use mathlib.Core.Path.{_≡_, refl, sym, ap, _∙_}
 use mathlib.Core.List.{List}
 use borrow.Author.Needs.{needs}
 use Rattle.errno.specs.declared.Errno.the-variants.{Eaddrinuse, Eaddrnotavail}
-use Rattle.mask.specs.Bits.{Bits, bits, included}
+use Rattle.mask.specs.Bits.{Bits, bits, included, someBelow, both}
 use Rattle.mask.proofs.Laws.{mask-words}
 use Rattle.rules.specs.Commands.{assignAt, numbersOf, withDevice, withNumbers}
-use Rattle.record.specs.Layout.{deviceIn, stateIn}
+use Rattle.rules.specs.State.{queues}
+use Rattle.rules.specs.Queues.{reserved}
+use Rattle.record.specs.Layout.{deviceIn, hostIn, stateIn}
+use Rattle.product.specs.Meet.{queuesOf}
 use Rattle.record.proofs.Laws.{refused-carried, done-carried}
 use Rattle.assign.specs.Numbers.{assignedAt}
 use Rattle.assign.proofs.Laws.{same-words, assigned-already, new-number, put-changed, read-changed}
 use Rattle.assign.proofs.assign_at.Statement.{statement}
 use Rattle.assign.proofs.assign_at.Tie as tie
-
-hold-words-requires : tie.Need-hold-words-requires
-hold-words-requires c κs = search needs
-
-numbers-requires : tie.Need-numbers-requires
-numbers-requires c κs = search needs
-
-has-requires : tie.Need-has-requires
-has-requires c κs = search needs
 
 returns : tie.Need-returns
 returns c =
@@ -32,24 +27,17 @@ returns c =
     let same = same-words ws (a .kind) (a .slot) (c .before .before .before .before .hold-words .ensures) (c .before .before .before .before .before .before .pre) (a .number) has in
     done-carried (assignAt (a .kind) (a .number) (a .slot)) (assignedAt (a .kind) (a .slot) (a .number)) ws (λ qs. stateIn ws qs) same (λ qs. assigned-already (a .kind) (a .number) (a .slot) ws qs has) (λ qs. ap (λ (l : List ℕ). stateIn l qs) (sym same))
 
-paired-requires : tie.Need-paired-requires
-paired-requires c κs = search needs
-
-reserved-requires : tie.Need-reserved-requires
-reserved-requires c κs = search needs
-
 returns-2 : tie.Need-returns-2
 returns-2 c =
     let a = c .before .before .before .before .before .before .before .before .before .before .before .args in
     let ws = a .words .now in
     let none = sym (c .before .before .before .before .before .before .has .ensures ∙ ap (λ (m : Bits). m (a .number)) (c .before .before .before .before .before .before .before .numbers .ensures)) ∙ c .before .before .before .before .before .if1 .left in
     let new = c .before .before .before .paired in
+    -- by congruence, so that it fails as a fact where the tests are made in another order
+    let hit : someBelow queues (both (queuesOf (new .result)) (reserved (hostIn ws))) ≡ true = cc in
     refused-carried (assignAt (a .kind) (a .number) (a .slot)) (assignedAt (a .kind) (a .slot) (a .number)) ws Eaddrnotavail
     (λ qs. new-number (a .kind) (a .number) (a .slot) ws qs (bits (new .result .adapters)) (bits (new .result .domains)) (new .ensures) none
-    (sym (c .before .reserved .ensures) ∙ c .if2 .taken) refl)
-
-taken-requires : tie.Need-taken-requires
-taken-requires c κs = search needs
+    hit refl)
 
 returns-3 : tie.Need-returns-3
 returns-3 c =
@@ -60,12 +48,6 @@ returns-3 c =
     refused-carried (assignAt (a .kind) (a .number) (a .slot)) (assignedAt (a .kind) (a .slot) (a .number)) ws Eaddrinuse
     (λ qs. new-number (a .kind) (a .number) (a .slot) ws qs (bits (new .result .adapters)) (bits (new .result .domains)) (new .ensures) none
     (sym (c .before .before .before .before .reserved .ensures) ∙ c .before .before .before .if2 .left) (sym (c .before .taken .ensures) ∙ c .if3 .taken))
-
-with-requires : tie.Need-with-requires
-with-requires c κs = search needs
-
-put-numbers-requires : tie.Need-put-numbers-requires
-put-numbers-requires c κs = search needs
 
 returns-4 : tie.Need-returns-4
 returns-4 c =
@@ -89,15 +71,15 @@ pub assign-at-spec : {M : Type 1} → statement M
 assign-at-spec =
     tie.close
     (tie.spec
-    hold-words-requires
-    numbers-requires
-    has-requires
+    (λ c κs. search needs)
+    (λ c κs. search needs)
+    (λ c κs. search needs)
     returns
-    paired-requires
-    reserved-requires
+    (λ c κs. search needs)
+    (λ c κs. search needs)
     returns-2
-    taken-requires
+    (λ c κs. search needs)
     returns-3
-    with-requires
-    put-numbers-requires
+    (λ c κs. search needs)
+    (λ c κs. search needs)
     returns-4)

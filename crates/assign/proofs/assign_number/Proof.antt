@@ -15,17 +15,11 @@ use Rattle.assign.proofs.Laws.{by-range, in-range-small}
 use Rattle.assign.proofs.assign_number.Statement.{statement}
 use Rattle.assign.proofs.assign_number.Tie as tie
 
-find-requires : tie.Need-find-requires
-find-requires c κs = search needs
-
 returns : tie.Need-returns
 returns c =
     let a = c .before .before .before .args in
     refused-carried (assignNumber (a .kind) (a .id) (a .number)) (assignedNumber (a .kind) (a .id) (a .number)) (a .words .now) Enoent
     (λ qs. unknown (a .id) (a .words .now) qs (c .before .find .result) (c .before .find .ensures) _ (c .if1 .taken))
-
-in-range-requires : tie.Need-in-range-requires
-in-range-requires c κs = search needs
 
 returns-2 : tie.Need-returns-2
 returns-2 c =
@@ -34,12 +28,6 @@ returns-2 c =
     let over = ap not (sym (c .if2 .taken)) ∙ Bool·not-not _ ∙ c .before .in-range .ensures in
     refused-carried (assignNumber (a .kind) (a .id) (a .number)) (assignedNumber (a .kind) (a .id) (a .number)) (a .words .now) Enodev
     (λ qs. by-range (a .kind) (a .id) (a .number) (a .words .now) qs (f .result) (f .ensures) (c .before .before .before .if1 .left) _ over _)
-
-cast-assign-at : tie.Need-cast-assign-at
-cast-assign-at c = search needs
-
-assign-at-requires : tie.Need-assign-at-requires
-assign-at-requires c κs = search needs
 
 returns-3 : tie.Need-returns-3
 returns-3 c =
@@ -57,10 +45,10 @@ pub assign-number-spec : {M : Type 1} → statement M
 assign-number-spec =
     tie.close
     (tie.spec
-    find-requires
+    (λ c κs. search needs)
     returns
-    in-range-requires
+    (λ c κs. search needs)
     returns-2
-    cast-assign-at
-    assign-at-requires
+    (λ c. search needs)
+    (λ c κs. search needs)
     returns-3)

@@ -8,24 +8,6 @@ use Rattle.record.specs.Layout.{limitsIn}
 use Rattle.assign.proofs.limit.Statement.{statement}
 use Rattle.assign.proofs.limit.Tie as tie
 
-enum-told : tie.Need-enum-told
-enum-told c = search needs
-
-max-adapter-requires : tie.Need-max-adapter-requires
-max-adapter-requires c κs = search needs
-
-enum-told-2 : tie.Need-enum-told-2
-enum-told-2 c = search needs
-
-max-domain-requires : tie.Need-max-domain-requires
-max-domain-requires c κs = search needs
-
-enum-told-3 : tie.Need-enum-told-3
-enum-told-3 c = search needs
-
-max-domain-requires-2 : tie.Need-max-domain-requires-2
-max-domain-requires-2 c κs = search needs
-
 returns : tie.Need-returns
 unfolding limitOf
 returns c =
@@ -48,12 +30,12 @@ pub limit-spec : {M : Type 1} → statement M
 limit-spec =
     tie.close
     (tie.spec
-    enum-told
-    max-adapter-requires
-    enum-told-2
-    max-domain-requires
-    enum-told-3
-    max-domain-requires-2
+    (λ c. search needs)
+    (λ c κs. search needs)
+    (λ c. search needs)
+    (λ c κs. search needs)
+    (λ c. search needs)
+    (λ c κs. search needs)
     returns
     returns-2
     returns-3)

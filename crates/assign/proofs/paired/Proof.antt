@@ -11,39 +11,6 @@ use Rattle.assign.proofs.Laws.{one-bit}
 use Rattle.assign.proofs.paired.Statement.{statement}
 use Rattle.assign.proofs.paired.Tie as tie
 
-enum-told : tie.Need-enum-told
-enum-told c = search needs
-
-empty-requires : tie.Need-empty-requires
-empty-requires c κs = search needs
-
-with-requires : tie.Need-with-requires
-with-requires c κs = search needs
-
-numbers-requires : tie.Need-numbers-requires
-numbers-requires c κs = search needs
-
-enum-told-2 : tie.Need-enum-told-2
-enum-told-2 c = search needs
-
-numbers-requires-2 : tie.Need-numbers-requires-2
-numbers-requires-2 c κs = search needs
-
-empty-requires-2 : tie.Need-empty-requires-2
-empty-requires-2 c κs = search needs
-
-with-requires-2 : tie.Need-with-requires-2
-with-requires-2 c κs = search needs
-
-enum-told-3 : tie.Need-enum-told-3
-enum-told-3 c = search needs
-
-empty-requires-3 : tie.Need-empty-requires-3
-empty-requires-3 c κs = search needs
-
-empty-requires-4 : tie.Need-empty-requires-4
-empty-requires-4 c κs = search needs
-
 returns : tie.Need-returns
 unfolding paired numbersOf
 returns c =
@@ -71,17 +38,17 @@ pub paired-spec : {M : Type 1} → statement M
 paired-spec =
     tie.close
     (tie.spec
-    enum-told
-    empty-requires
-    with-requires
-    numbers-requires
-    enum-told-2
-    numbers-requires-2
-    empty-requires-2
-    with-requires-2
-    enum-told-3
-    empty-requires-3
-    empty-requires-4
+    (λ c. search needs)
+    (λ c κs. search needs)
+    (λ c κs. search needs)
+    (λ c κs. search needs)
+    (λ c. search needs)
+    (λ c κs. search needs)
+    (λ c κs. search needs)
+    (λ c κs. search needs)
+    (λ c. search needs)
+    (λ c κs. search needs)
+    (λ c κs. search needs)
     returns
     returns-2
     returns-3)

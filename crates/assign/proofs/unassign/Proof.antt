@@ -10,18 +10,6 @@ use Rattle.assign.proofs.Laws.{by-number, by-none}
 use Rattle.assign.proofs.unassign.Statement.{statement}
 use Rattle.assign.proofs.unassign.Tie as tie
 
-parse-requires : tie.Need-parse-requires
-parse-requires c κs = search needs
-
-enum-known-n : tie.Need-enum-known-n
-enum-known-n c = search needs
-
-unassign-number-requires : tie.Need-unassign-number-requires
-unassign-number-requires c κs = search needs
-
-enum-told : tie.Need-enum-told
-enum-told c = search needs
-
 returns : tie.Need-returns
 unfolding unassign outcome
 returns c =
@@ -40,4 +28,4 @@ returns-2 c =
 pub unassign-spec : {M : Type 1} → statement M
 unassign-spec =
     tie.close
-    (tie.spec parse-requires enum-known-n unassign-number-requires enum-told returns returns-2)
+    (tie.spec (λ c κs. search needs) (λ c. search needs) (λ c κs. search needs) (λ c. search needs) returns returns-2)

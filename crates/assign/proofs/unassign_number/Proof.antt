@@ -17,17 +17,11 @@ use Rattle.assign.proofs.Laws.{by-range, in-range-small, put-changed, r
 use Rattle.assign.proofs.unassign_number.Statement.{statement}
 use Rattle.assign.proofs.unassign_number.Tie as tie
 
-find-requires : tie.Need-find-requires
-find-requires c κs = search needs
-
 returns : tie.Need-returns
 returns c =
     let a = c .before .before .before .args in
     refused-carried (unassignNumber (a .kind) (a .id) (a .number)) (unassignedNumber (a .kind) (a .id) (a .number)) (a .words .now) Enoent
     (λ qs. unknown (a .id) (a .words .now) qs (c .before .find .result) (c .before .find .ensures) _ (c .if1 .taken))
-
-in-range-requires : tie.Need-in-range-requires
-in-range-requires c κs = search needs
 
 returns-2 : tie.Need-returns-2
 returns-2 c =
@@ -36,21 +30,6 @@ returns-2 c =
     let over = ap not (sym (c .if2 .taken)) ∙ Bool·not-not _ ∙ c .before .in-range .ensures in
     refused-carried (unassignNumber (a .kind) (a .id) (a .number)) (unassignedNumber (a .kind) (a .id) (a .number)) (a .words .now) Enodev
     (λ qs. by-range (a .kind) (a .id) (a .number) (a .words .now) qs (f .result) (f .ensures) (c .before .before .before .if1 .left) _ over _)
-
-hold-words-requires : tie.Need-hold-words-requires
-hold-words-requires c κs = search needs
-
-numbers-requires : tie.Need-numbers-requires
-numbers-requires c κs = search needs
-
-cast-without : tie.Need-cast-without
-cast-without c = search needs
-
-without-requires : tie.Need-without-requires
-without-requires c κs = search needs
-
-put-numbers-requires : tie.Need-put-numbers-requires
-put-numbers-requires c κs = search needs
 
 returns-3 : tie.Need-returns-3
 unfolding stateIn
@@ -77,13 +56,13 @@ pub unassign-number-spec : {M : Type 1} → statement M
 unassign-number-spec =
     tie.close
     (tie.spec
-    find-requires
+    (λ c κs. search needs)
     returns
-    in-range-requires
+    (λ c κs. search needs)
     returns-2
-    hold-words-requires
-    numbers-requires
-    cast-without
-    without-requires
-    put-numbers-requires
+    (λ c κs. search needs)
+    (λ c κs. search needs)
+    (λ c. search needs)
+    (λ c κs. search needs)
+    (λ c κs. search needs)
     returns-3)

@@ -14,17 +14,11 @@ use Rattle.devices.proofs.Laws.{create-known, create-full, create-new}
 use Rattle.devices.proofs.create.Statement.{statement}
 use Rattle.devices.proofs.create.Tie as tie
 
-find-requires : tie.Need-find-requires
-find-requires c κs = search needs
-
 returns : tie.Need-returns
 returns c =
     let a = c .before .before .before .args in
     refused-carried (create (a .id)) (created (a .id)) (a .words .now) Eexist
     (λ qs. create-known (a .id) (a .words .now) qs (c .before .find .result) _ (c .before .find .ensures) refl (c .if1 .taken))
-
-free-requires : tie.Need-free-requires
-free-requires c κs = search needs
 
 returns-2 : tie.Need-returns-2
 returns-2 c =
@@ -33,12 +27,6 @@ returns-2 c =
     refused-carried (create (a .id)) (created (a .id)) (a .words .now) Enospc
     (λ qs. create-full (a .id) (a .words .now) qs (f .result) (c .before .free .result) (f .ensures) (c .before .free .ensures)
     (c .before .before .before .if1 .left) (c .if2 .taken))
-
-hold-words-requires : tie.Need-hold-words-requires
-hold-words-requires c κs = search needs
-
-put-device-requires : tie.Need-put-device-requires
-put-device-requires c κs = search needs
 
 returns-3 : tie.Need-returns-3
 returns-3 c =
@@ -58,10 +46,10 @@ pub create-spec : {M : Type 1} → statement M
 create-spec =
     tie.close
     (tie.spec
-    find-requires
+    (λ c κs. search needs)
     returns
-    free-requires
+    (λ c κs. search needs)
     returns-2
-    hold-words-requires
-    put-device-requires
+    (λ c κs. search needs)
+    (λ c κs. search needs)
     returns-3)

@@ -15,18 +15,12 @@ use Rattle.devices.proofs.Laws.{by-open}
 use Rattle.devices.proofs.open.Statement.{statement}
 use Rattle.devices.proofs.open.Tie as tie
 
-find-requires : tie.Need-find-requires
-find-requires c κs = search needs
-
 returns : tie.Need-returns
 unfolding openDevice
 returns c =
     let a = c .before .before .before .args in
     refused-carried (openDevice (a .id)) (opened (a .id)) (a .words .now) Enoent
     (λ qs. unknown (a .id) (a .words .now) qs (c .before .find .result) (c .before .find .ensures) _ (c .if1 .taken))
-
-is-open-requires : tie.Need-is-open-requires
-is-open-requires c κs = search needs
 
 returns-2 : tie.Need-returns-2
 unfolding openDevice
@@ -35,12 +29,6 @@ returns-2 c =
     let f = c .before .before .before .before .find in
     refused-carried (openDevice (a .id)) (opened (a .id)) (a .words .now) Ebusy
     (λ qs. by-open (a .id) (a .words .now) qs (f .result) (f .ensures) (c .before .before .before .if1 .left) _ (sym (c .if2 .taken) ∙ c .before .is-open .ensures) _ _)
-
-hold-words-requires : tie.Need-hold-words-requires
-hold-words-requires c κs = search needs
-
-put-open-requires : tie.Need-put-open-requires
-put-open-requires c κs = search needs
 
 returns-3 : tie.Need-returns-3
 unfolding openDevice stateIn
@@ -59,10 +47,10 @@ pub open-spec : {M : Type 1} → statement M
 open-spec =
     tie.close
     (tie.spec
-    find-requires
+    (λ c κs. search needs)
     returns
-    is-open-requires
+    (λ c κs. search needs)
     returns-2
-    hold-words-requires
-    put-open-requires
+    (λ c κs. search needs)
+    (λ c κs. search needs)
     returns-3)

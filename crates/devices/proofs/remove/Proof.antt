@@ -16,18 +16,12 @@ use Rattle.devices.proofs.Laws.{by-open}
 use Rattle.devices.proofs.remove.Statement.{statement}
 use Rattle.devices.proofs.remove.Tie as tie
 
-find-requires : tie.Need-find-requires
-find-requires c κs = search needs
-
 returns : tie.Need-returns
 unfolding remove
 returns c =
     let a = c .before .before .before .args in
     refused-carried (remove (a .id)) (removed (a .id)) (a .words .now) Enoent
     (λ qs. unknown (a .id) (a .words .now) qs (c .before .find .result) (c .before .find .ensures) _ (c .if1 .taken))
-
-is-open-requires : tie.Need-is-open-requires
-is-open-requires c κs = search needs
 
 returns-2 : tie.Need-returns-2
 unfolding remove
@@ -36,12 +30,6 @@ returns-2 c =
     let f = c .before .before .before .before .find in
     refused-carried (remove (a .id)) (removed (a .id)) (a .words .now) Ebusy
     (λ qs. by-open (a .id) (a .words .now) qs (f .result) (f .ensures) (c .before .before .before .if1 .left) _ (sym (c .if2 .taken) ∙ c .before .is-open .ensures) _ _)
-
-hold-words-requires : tie.Need-hold-words-requires
-hold-words-requires c κs = search needs
-
-put-device-requires : tie.Need-put-device-requires
-put-device-requires c κs = search needs
 
 returns-3 : tie.Need-returns-3
 unfolding remove
@@ -60,10 +48,10 @@ pub remove-spec : {M : Type 1} → statement M
 remove-spec =
     tie.close
     (tie.spec
-    find-requires
+    (λ c κs. search needs)
     returns
-    is-open-requires
+    (λ c κs. search needs)
     returns-2
-    hold-words-requires
-    put-device-requires
+    (λ c κs. search needs)
+    (λ c κs. search needs)
     returns-3)

@@ -10,9 +10,6 @@ use Rattle.errno.proofs.Table.{Entry, entryOf, right, row-below}
 use Rattle.errno.proofs.name.Statement.{statement}
 use Rattle.errno.proofs.name.Tie as tie
 
-row-requires : tie.Need-row-requires
-row-requires c κs = search needs
-
 mul-entry : tie.Need-mul-entry
 mul-entry c = omega (arith, c .row .ensures, row-below (c .before .args .e))
 
@@ -27,4 +24,4 @@ returns c =
     (ap (λ (x : Entry). x .len) (right e _), ap (λ (x : Entry). x .name) (right e _))
 
 pub name-spec : {M : Type 1} → statement M
-name-spec = tie.close (tie.spec row-requires mul-entry array-copy-out-entry returns)
+name-spec = tie.close (tie.spec (λ c κs. search needs) mul-entry array-copy-out-entry returns)

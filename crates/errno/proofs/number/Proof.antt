@@ -10,9 +10,6 @@ use Rattle.errno.proofs.Table.{Entry, entryOf, right, row-below}
 use Rattle.errno.proofs.number.Statement.{statement}
 use Rattle.errno.proofs.number.Tie as tie
 
-row-requires : tie.Need-row-requires
-row-requires c κs = search needs
-
 mul-result : tie.Need-mul-result
 mul-result c = omega (arith, c .row .ensures, row-below (c .before .args .e))
 
@@ -24,4 +21,4 @@ unfolding ascii numberOf nameOf cases entryOf
 returns c = rw (c .row .ensures) (ap (λ (x : Entry). x .number) (right (c .before .args .e) _))
 
 pub number-spec : {M : Type 1} → statement M
-number-spec = tie.close (tie.spec row-requires mul-result element-copy-out-result returns)
+number-spec = tie.close (tie.spec (λ c κs. search needs) mul-result element-copy-out-result returns)

@@ -11,12 +11,6 @@ use Rattle.host.proofs.Laws.{above, by-limits, gone-away, config-refuse
 use Rattle.host.proofs.configure.Statement.{statement}
 use Rattle.host.proofs.configure.Tie as tie
 
-max-adapter-requires : tie.Need-max-adapter-requires
-max-adapter-requires c κs = search needs
-
-exceeds-requires : tie.Need-exceeds-requires
-exceeds-requires c κs = search needs
-
 returns : tie.Need-returns
 returns c =
     let a = c .before .before .before .before .before .before .before .args in
@@ -26,12 +20,6 @@ returns c =
     (above (g .adapters) _ _ _ _ (c .if1 .taken) (c .before .exceeds .ensures) (c .before .before .max-adapter .ensures))
     refl
     refl)
-
-max-domain-requires : tie.Need-max-domain-requires
-max-domain-requires c κs = search needs
-
-exceeds-requires-2 : tie.Need-exceeds-requires-2
-exceeds-requires-2 c κs = search needs
 
 returns-2 : tie.Need-returns-2
 returns-2 c =
@@ -43,12 +31,6 @@ returns-2 c =
     (above (g .domains) _ _ _ _ (c .if2 .taken) (c .before .exceeds2 .ensures) (c .before .before .max-domain .ensures))
     refl)
 
-max-domain-requires-2 : tie.Need-max-domain-requires-2
-max-domain-requires-2 c κs = search needs
-
-exceeds-requires-3 : tie.Need-exceeds-requires-3
-exceeds-requires-3 c κs = search needs
-
 returns-3 : tie.Need-returns-3
 returns-3 c =
     let a = c .before .before .before .before .before .before .before .before .before .before .before .before .before .before .before .args in
@@ -58,24 +40,6 @@ returns-3 c =
     (above (g .adapters) _ _ _ _ (c .before .before .before .before .before .before .before .before .if1 .left) (c .before .before .before .before .before .before .before .before .before .exceeds .ensures) (c .before .before .before .before .before .before .before .before .before .before .max-adapter .ensures))
     (above (g .domains) _ _ _ _ (c .before .before .before .before .if2 .left) (c .before .before .before .before .before .exceeds2 .ensures) (c .before .before .before .before .before .before .max-domain .ensures))
     (above (g .controls) _ _ _ _ (c .if3 .taken) (c .before .exceeds3 .ensures) (c .before .before .max-domain2 .ensures)))
-
-hold-words-requires : tie.Need-hold-words-requires
-hold-words-requires c κs = search needs
-
-hold-drivers-requires : tie.Need-hold-drivers-requires
-hold-drivers-requires c κs = search needs
-
-configured-adapters-requires : tie.Need-configured-adapters-requires
-configured-adapters-requires c κs = search needs
-
-configured-domains-requires : tie.Need-configured-domains-requires
-configured-domains-requires c κs = search needs
-
-unbind-requires : tie.Need-unbind-requires
-unbind-requires c κs = search needs
-
-put-configuration-requires : tie.Need-put-configuration-requires
-put-configuration-requires c κs = search needs
 
 returns-4 : tie.Need-returns-4
 returns-4 c =
@@ -100,19 +64,19 @@ pub configure-spec : {M : Type 1} → statement M
 configure-spec =
     tie.close
     (tie.spec
-    max-adapter-requires
-    exceeds-requires
+    (λ c κs. search needs)
+    (λ c κs. search needs)
     returns
-    max-domain-requires
-    exceeds-requires-2
+    (λ c κs. search needs)
+    (λ c κs. search needs)
     returns-2
-    max-domain-requires-2
-    exceeds-requires-3
+    (λ c κs. search needs)
+    (λ c κs. search needs)
     returns-3
-    hold-words-requires
-    hold-drivers-requires
-    configured-adapters-requires
-    configured-domains-requires
-    unbind-requires
-    put-configuration-requires
+    (λ c κs. search needs)
+    (λ c κs. search needs)
+    (λ c κs. search needs)
+    (λ c κs. search needs)
+    (λ c κs. search needs)
+    (λ c κs. search needs)
     returns-4)

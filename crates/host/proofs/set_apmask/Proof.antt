@@ -18,12 +18,6 @@ use Rattle.host.proofs.Laws.{bad-text, good-text, put-words, read-words
 use Rattle.host.proofs.set_apmask.Statement.{statement}
 use Rattle.host.proofs.set_apmask.Tie as tie
 
-apmask-requires : tie.Need-apmask-requires
-apmask-requires c κs = search needs
-
-parse-requires : tie.Need-parse-requires
-parse-requires c κs = search needs
-
 returns : tie.Need-returns
 unfolding setApmask stateIn hostIn
 returns c =
@@ -31,12 +25,6 @@ returns c =
     let ws = a .words .now in
     refused-carried (setApmask (now (a .text))) (withApmask (now (a .text))) ws Einval
     (bad-text (now (a .text)) ws apmaskAt (with-apmask ws) (c .before .before .before .apmask .result) (c .before .before .parse .result) (c .before .before .before .apmask .ensures) (c .before .before .parse .ensures .0) (sym (Bool·not-not _) ∙ ap not (c .if1 .taken)))
-
-aqmask-requires : tie.Need-aqmask-requires
-aqmask-requires c κs = search needs
-
-taken-requires : tie.Need-taken-requires
-taken-requires c κs = search needs
 
 returns-2 : tie.Need-returns-2
 unfolding setApmask stateIn hostIn reserved
@@ -52,12 +40,6 @@ returns-2 c =
     refused-carried (setApmask (now (a .text))) (withApmask (now (a .text))) ws Eaddrinuse
     (good-text (now (a .text)) ws apmaskAt (with-apmask ws) (old .result) new (old .ensures) (got .ensures .0) good (bits (new .mask)) (bits (o .result)) true
     (sym (c .if2 .taken) ∙ c .before .taken .ensures) same)
-
-hold-words-requires : tie.Need-hold-words-requires
-hold-words-requires c κs = search needs
-
-put-apmask-requires : tie.Need-put-apmask-requires
-put-apmask-requires c κs = search needs
 
 returns-3 : tie.Need-returns-3
 unfolding setApmask stateIn hostIn reserved
@@ -81,12 +63,12 @@ pub set-apmask-spec : {M : Type 1} → statement M
 set-apmask-spec =
     tie.close
     (tie.spec
-    apmask-requires
-    parse-requires
+    (λ c κs. search needs)
+    (λ c κs. search needs)
     returns
-    aqmask-requires
-    taken-requires
+    (λ c κs. search needs)
+    (λ c κs. search needs)
     returns-2
-    hold-words-requires
-    put-apmask-requires
+    (λ c κs. search needs)
+    (λ c κs. search needs)
     returns-3)

@@ -18,12 +18,6 @@ use Rattle.host.proofs.Laws.{bad-text, good-text, put-words, read-words
 use Rattle.host.proofs.set_aqmask.Statement.{statement}
 use Rattle.host.proofs.set_aqmask.Tie as tie
 
-aqmask-requires : tie.Need-aqmask-requires
-aqmask-requires c κs = search needs
-
-parse-requires : tie.Need-parse-requires
-parse-requires c κs = search needs
-
 returns : tie.Need-returns
 unfolding setAqmask stateIn hostIn
 returns c =
@@ -31,12 +25,6 @@ returns c =
     let ws = a .words .now in
     refused-carried (setAqmask (now (a .text))) (withAqmask (now (a .text))) ws Einval
     (bad-text (now (a .text)) ws aqmaskAt (with-aqmask ws) (c .before .before .before .aqmask .result) (c .before .before .parse .result) (c .before .before .before .aqmask .ensures) (c .before .before .parse .ensures .0) (sym (Bool·not-not _) ∙ ap not (c .if1 .taken)))
-
-apmask-requires : tie.Need-apmask-requires
-apmask-requires c κs = search needs
-
-taken-requires : tie.Need-taken-requires
-taken-requires c κs = search needs
 
 returns-2 : tie.Need-returns-2
 unfolding setAqmask stateIn hostIn reserved
@@ -52,12 +40,6 @@ returns-2 c =
     refused-carried (setAqmask (now (a .text))) (withAqmask (now (a .text))) ws Eaddrinuse
     (good-text (now (a .text)) ws aqmaskAt (with-aqmask ws) (old .result) new (old .ensures) (got .ensures .0) good (bits (o .result)) (bits (new .mask)) true
     (sym (c .if2 .taken) ∙ c .before .taken .ensures) same)
-
-hold-words-requires : tie.Need-hold-words-requires
-hold-words-requires c κs = search needs
-
-put-aqmask-requires : tie.Need-put-aqmask-requires
-put-aqmask-requires c κs = search needs
 
 returns-3 : tie.Need-returns-3
 unfolding setAqmask stateIn hostIn reserved
@@ -81,12 +63,12 @@ pub set-aqmask-spec : {M : Type 1} → statement M
 set-aqmask-spec =
     tie.close
     (tie.spec
-    aqmask-requires
-    parse-requires
+    (λ c κs. search needs)
+    (λ c κs. search needs)
     returns
-    apmask-requires
-    taken-requires
+    (λ c κs. search needs)
+    (λ c κs. search needs)
     returns-2
-    hold-words-requires
-    put-aqmask-requires
+    (λ c κs. search needs)
+    (λ c κs. search needs)
     returns-3)

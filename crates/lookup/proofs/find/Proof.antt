@@ -29,20 +29,11 @@ loop-holds : tie.Need-loop-holds Inv-loop μ-loop
 unfolding slotOf
 loop-holds c = (omega arith, refl)
 
-is-at-requires : tie.Need-is-at-requires Inv-loop μ-loop
-is-at-requires c κs = search needs
-
 returns : tie.Need-returns Inv-loop μ-loop
 returns c =
     let a = c .before .before .before .before .args in
     let l = c .before .before .before .loop in
     sym (l .inv .1 ∙ turn-here 8 (l .slot) (here (a .id) (a .words .now)) (omega arith) (sym (c .before .is-at .ensures) ∙ c .if1 .taken))
-
-add-slot : tie.Need-add-slot Inv-loop μ-loop
-add-slot c = search needs
-
-loop-less : tie.Need-loop-less Inv-loop μ-loop
-loop-less c = search needs
 
 loop-again : tie.Need-loop-again Inv-loop μ-loop
 loop-again c =
@@ -63,9 +54,9 @@ find-spec =
     Inv-loop
     μ-loop
     loop-holds
-    is-at-requires
+    (λ c κs. search needs)
     returns
-    add-slot
-    loop-less
+    (λ c. search needs)
+    (λ c. search needs)
     loop-again
     returns-2)

@@ -8,12 +8,6 @@ use Rattle.lookup.proofs.Laws.{and-yes, and-no}
 use Rattle.lookup.proofs.is_at.Statement.{statement}
 use Rattle.lookup.proofs.is_at.Tie as tie
 
-occupied-requires : tie.Need-occupied-requires
-occupied-requires c κs = search needs
-
-id-requires : tie.Need-id-requires
-id-requires c κs = search needs
-
 returns : tie.Need-returns
 unfolding sameId
 returns c =
@@ -34,4 +28,4 @@ returns-3 : tie.Need-returns-3
 returns-3 c = sym (and-no _ (sym (c .before .occupied .ensures) ∙ c .if1 .left))
 
 pub is-at-spec : {M : Type 1} → statement M
-is-at-spec = tie.close (tie.spec occupied-requires id-requires returns returns-2 returns-3)
+is-at-spec = tie.close (tie.spec (λ c κs. search needs) (λ c κs. search needs) returns returns-2 returns-3)

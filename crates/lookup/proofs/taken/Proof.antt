@@ -27,9 +27,6 @@ loop-holds : tie.Need-loop-holds Inv-loop μ-loop
 unfolding someBelow
 loop-holds c = (omega arith, refl)
 
-shares-requires : tie.Need-shares-requires Inv-loop μ-loop
-shares-requires c κs = search needs
-
 returns : tie.Need-returns Inv-loop μ-loop
 returns c =
     let a = c .before .before .before .before .before .args in
@@ -38,12 +35,6 @@ returns c =
     sym (taken-by (a .slot) (deviceIn (a .words .now)) (queuesOf (a .wanted))
     ∙ some-intro slots f j (omega arith)
     (and-yes (ap not (ne-eqb j (a .slot) (c .before .before .if1 .taken))) ∙ sym (c .before .shares .ensures) ∙ c .if2 .taken))
-
-add-other : tie.Need-add-other Inv-loop μ-loop
-add-other c = search needs
-
-loop-less : tie.Need-loop-less Inv-loop μ-loop
-loop-less c = search needs
 
 loop-again : tie.Need-loop-again Inv-loop μ-loop
 loop-again c =
@@ -74,9 +65,9 @@ taken-spec =
     Inv-loop
     μ-loop
     loop-holds
-    shares-requires
+    (λ c κs. search needs)
     returns
-    add-other
-    loop-less
+    (λ c. search needs)
+    (λ c. search needs)
     loop-again
     returns-2)

@@ -25,36 +25,18 @@ Inv-loop s old m₀ i₀ m i = (2 ≤ i) × (i ≤ length s) × (allHex (drop 2 
 abbrev μ-loop : tie.MeasureT-loop
 μ-loop s old m₀ i₀ m i = length s - i
 
-bad-requires : tie.Need-bad-requires Inv-loop μ-loop
-bad-requires c κs = search needs
-
 returns : tie.Need-returns Inv-loop μ-loop
 returns c =
     let s = now (c .before .before .before .args .s) in
     (c .bad .ensures .0 ∙ sym (hex-few (drop 2 s) (simp length-drop (omega arith))), c .bad .ensures .1)
-
-bad-requires-2 : tie.Need-bad-requires-2 Inv-loop μ-loop
-bad-requires-2 c κs = search needs
 
 returns-2 : tie.Need-returns-2 Inv-loop μ-loop
 returns-2 c =
     let s = now (c .before .before .before .before .args .s) in
     (c .bad2 .ensures .0 ∙ sym (hex-many (drop 2 s) (simp length-drop (omega arith))), c .bad2 .ensures .1)
 
-empty-requires : tie.Need-empty-requires Inv-loop μ-loop
-empty-requires c κs = search needs
-
 loop-holds : tie.Need-loop-holds Inv-loop μ-loop
 loop-holds c = (omega arith, omega arith, refl, c .empty .ensures ∙ sym (bits-none 4))
-
-shared-slice-read-digit-of : tie.Need-shared-slice-read-digit-of Inv-loop μ-loop
-shared-slice-read-digit-of c = search needs
-
-digit-of-requires : tie.Need-digit-of-requires Inv-loop μ-loop
-digit-of-requires c κs = search needs
-
-bad-requires-3 : tie.Need-bad-requires-3 Inv-loop μ-loop
-bad-requires-3 c κs = search needs
 
 returns-3 : tie.Need-returns-3 Inv-loop μ-loop
 returns-3 c =
@@ -63,21 +45,6 @@ returns-3 c =
     let other : ltb (digitOf (getD s (l .i) 0)) 16 ≡ false = le-ltb (digitOf (getD s (l .i) 0)) 16 (omega (arith, c .before .before .digit-of .ensures)) in
     let none : allHex (drop 2 s) ≡ false = l .inv .2 ∙ all-hex-turn s (l .i) (omega arith) ∙ rw other in
     (c .bad3 .ensures .0 ∙ sym (hex-other (drop 2 s) (simp length-drop (omega arith)) (simp length-drop (omega arith)) none), c .bad3 .ensures .1)
-
-sub-with-nibble : tie.Need-sub-with-nibble Inv-loop μ-loop
-sub-with-nibble c = search needs
-
-cast-with-nibble : tie.Need-cast-with-nibble Inv-loop μ-loop
-cast-with-nibble c = search needs
-
-with-nibble-requires : tie.Need-with-nibble-requires Inv-loop μ-loop
-with-nibble-requires c κs = search needs
-
-add-i : tie.Need-add-i Inv-loop μ-loop
-add-i c = search needs
-
-loop-less : tie.Need-loop-less Inv-loop μ-loop
-loop-less c = search needs
 
 loop-again : tie.Need-loop-again Inv-loop μ-loop
 loop-again c =
@@ -111,20 +78,20 @@ hex-mask-spec =
     (tie.spec
     Inv-loop
     μ-loop
-    bad-requires
+    (λ c κs. search needs)
     returns
-    bad-requires-2
+    (λ c κs. search needs)
     returns-2
-    empty-requires
+    (λ c κs. search needs)
     loop-holds
-    shared-slice-read-digit-of
-    digit-of-requires
-    bad-requires-3
+    (λ c. search needs)
+    (λ c κs. search needs)
+    (λ c κs. search needs)
     returns-3
-    sub-with-nibble
-    cast-with-nibble
-    with-nibble-requires
-    add-i
-    loop-less
+    (λ c. search needs)
+    (λ c. search needs)
+    (λ c κs. search needs)
+    (λ c. search needs)
+    (λ c. search needs)
     loop-again
     returns-4)

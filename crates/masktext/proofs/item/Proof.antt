@@ -16,43 +16,10 @@ use borrow.Author.Needs.{needs}
 use Rattle.masktext.proofs.item.Statement.{statement}
 use Rattle.masktext.proofs.item.Tie as tie
 
-bad-requires : tie.Need-bad-requires
-bad-requires c κs = search needs
-
 returns : tie.Need-returns
 returns c =
     let a = c .before .before .before .args in
     (c .bad .ensures .0 ∙ sym (item-none (bits (a .m)) (now (a .s)) (c .before .if1 .taken)), c .bad .ensures .1)
-
-sub-parse-at-most : tie.Need-sub-parse-at-most
-sub-parse-at-most c = search needs
-
-part-parse-at-most-start : tie.Need-part-parse-at-most-start
-part-parse-at-most-start c = search needs
-
-part-parse-at-most-end : tie.Need-part-parse-at-most-end
-part-parse-at-most-end c = search needs
-
-parse-at-most-requires : tie.Need-parse-at-most-requires
-parse-at-most-requires c κs = search needs
-
-enum-known-n : tie.Need-enum-known-n
-enum-known-n c = search needs
-
-shared-slice-read-signed : tie.Need-shared-slice-read-signed
-shared-slice-read-signed c = search needs
-
-cast-signed : tie.Need-cast-signed
-cast-signed c = search needs
-
-signed-requires : tie.Need-signed-requires
-signed-requires c κs = search needs
-
-enum-told : tie.Need-enum-told
-enum-told c = search needs
-
-bad-requires-2 : tie.Need-bad-requires-2
-bad-requires-2 c κs = search needs
 
 returns-2 : tie.Need-returns-2
 unfolding number-outcome
@@ -81,17 +48,17 @@ pub item-spec : {M : Type 1} → statement M
 item-spec =
     tie.close
     (tie.spec
-    bad-requires
+    (λ c κs. search needs)
     returns
-    sub-parse-at-most
-    part-parse-at-most-start
-    part-parse-at-most-end
-    parse-at-most-requires
-    enum-known-n
-    shared-slice-read-signed
-    cast-signed
-    signed-requires
-    enum-told
-    bad-requires-2
+    (λ c. search needs)
+    (λ c. search needs)
+    (λ c. search needs)
+    (λ c κs. search needs)
+    (λ c. search needs)
+    (λ c. search needs)
+    (λ c. search needs)
+    (λ c κs. search needs)
+    (λ c. search needs)
+    (λ c κs. search needs)
     returns-2
     returns-3)

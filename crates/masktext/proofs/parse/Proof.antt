@@ -14,19 +14,10 @@ use borrow.Author.Needs.{needs}
 use Rattle.masktext.proofs.parse.Statement.{statement}
 use Rattle.masktext.proofs.parse.Tie as tie
 
-body-len-requires : tie.Need-body-len-requires
-body-len-requires c κs = search needs
-
 slice-aggregate-b : tie.Need-slice-aggregate-b
 slice-aggregate-b c =
     let s = now (c .before .before .before .args .s) in
     sym (length-take-le (c .before .body-len .result) s (omega (arith, body-le s, c .before .body-len .ensures)))
-
-starts-hex-requires : tie.Need-starts-hex-requires
-starts-hex-requires c κs = search needs
-
-hex-mask-requires : tie.Need-hex-mask-requires
-hex-mask-requires c κs = search needs
 
 returns : tie.Need-returns
 unfolding maskText
@@ -35,9 +26,6 @@ returns c =
     let text : take (c .before .before .before .before .body-len .result) s ≡ body s = ap (λ (n : ℕ). take n s) (c .before .before .before .before .body-len .ensures) ∙ body-take s in
     let hex : startsHex (body s) ≡ true = ap startsHex (sym text) ∙ sym (c .before .before .starts-hex .ensures) ∙ c .before .if1 .taken in
     (rw (hex, ← text) (c .hex-mask .ensures .0), c .hex-mask .ensures .1)
-
-items-requires : tie.Need-items-requires
-items-requires c κs = search needs
 
 returns-2 : tie.Need-returns-2
 unfolding maskText
@@ -51,10 +39,10 @@ pub parse-spec : {M : Type 1} → statement M
 parse-spec =
     tie.close
     (tie.spec
-    body-len-requires
+    (λ c κs. search needs)
     slice-aggregate-b
-    starts-hex-requires
-    hex-mask-requires
+    (λ c κs. search needs)
+    (λ c κs. search needs)
     returns
-    items-requires
+    (λ c κs. search needs)
     returns-2)

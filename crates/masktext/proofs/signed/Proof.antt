@@ -9,18 +9,12 @@ use borrow.Author.Needs.{needs}
 use Rattle.masktext.proofs.signed.Statement.{statement}
 use Rattle.masktext.proofs.signed.Tie as tie
 
-with-requires : tie.Need-with-requires
-with-requires c κs = search needs
-
 returns : tie.Need-returns
 unfolding outcome signed
 returns c = (
   rw (eq-eqb (c .before .before .args .sign) 43 (c .before .if1 .taken)) (ap granted (c .with .ensures)),
   λ e. absurd (true≢false e),
 )
-
-without-requires : tie.Need-without-requires
-without-requires c κs = search needs
 
 returns-2 : tie.Need-returns-2
 unfolding outcome signed
@@ -30,9 +24,6 @@ returns-2 c =
       λ e. absurd (true≢false e),
     )
 
-bad-requires : tie.Need-bad-requires
-bad-requires c κs = search needs
-
 returns-3 : tie.Need-returns-3
 unfolding signed
 returns-3 c =
@@ -41,4 +32,4 @@ returns-3 c =
 
 pub signed-spec : {M : Type 1} → statement M
 signed-spec =
-    tie.close (tie.spec with-requires returns without-requires returns-2 bad-requires returns-3)
+    tie.close (tie.spec (λ c κs. search needs) returns (λ c κs. search needs) returns-2 (λ c κs. search needs) returns-3)

@@ -13,17 +13,11 @@ returns : tie.Need-returns
 unfolding digitOf
 returns c = simp (le-leb _ _ (c .before .if1 .taken), le-leb _ _ (c .if2 .taken))
 
-add-result : tie.Need-add-result
-add-result c = search needs
-
 returns-2 : tie.Need-returns-2
 unfolding digitOf
 returns-2 c =
     let x = c .before .before .before .args .c in
     rw (outside 48 x 57 (inr (omega arith))) (simp (le-leb _ _ (c .before .if3 .taken), le-leb _ _ (c .if4 .taken)) (omega arith))
-
-add-result-2 : tie.Need-add-result-2
-add-result-2 c = search needs
 
 returns-3 : tie.Need-returns-3
 unfolding digitOf
@@ -53,4 +47,4 @@ returns-5 c =
 
 pub digit-of-spec : {M : Type 1} → statement M
 digit-of-spec =
-    tie.close (tie.spec returns add-result returns-2 add-result-2 returns-3 returns-4 returns-5)
+    tie.close (tie.spec returns (λ c. search needs) returns-2 (λ c. search needs) returns-3 returns-4 returns-5)

@@ -35,18 +35,6 @@ loop-holds c = (
   rw (drop-cons (now (c .before .before .args .s)) (c .before .before .args .from) 0 (omega arith)),
 )
 
-shared-slice-read-one-more : tie.Need-shared-slice-read-one-more Inv-loop μ-loop
-shared-slice-read-one-more c = search needs
-
-one-more-requires : tie.Need-one-more-requires Inv-loop μ-loop
-one-more-requires c κs = search needs
-
-enum-known-next : tie.Need-enum-known-next Inv-loop μ-loop
-enum-known-next c = search needs
-
-enum-told : tie.Need-enum-told Inv-loop μ-loop
-enum-told c = search needs
-
 returns-2 : tie.Need-returns-2 Inv-loop μ-loop
 unfolding outcome andDigits
 returns-2 c =
@@ -55,9 +43,6 @@ returns-2 c =
     let got : oneMore (a .limit) (a .base) (l .v) (getD (now (a .s)) (l .i) 0) ≡ refused Einval =
     sym (c .before .before .one-more .ensures) ∙ ap outcome (c .enum-told .given .1) in
     sym (l .inv .2 ∙ turn-at (a .limit) (a .base) (l .v) (l .i) (now (a .s)) (omega arith) ∙ ap (andDigits (a .limit) (a .base) (drop (l .i + 1) (now (a .s)))) got)
-
-add-i : tie.Need-add-i Inv-loop μ-loop
-add-i c = search needs
 
 loop-less : tie.Need-loop-less Inv-loop μ-loop
 loop-less c = omega arith
@@ -89,12 +74,12 @@ digits-from-spec =
     μ-loop
     returns
     loop-holds
-    shared-slice-read-one-more
-    one-more-requires
-    enum-known-next
-    enum-told
+    (λ c. search needs)
+    (λ c κs. search needs)
+    (λ c. search needs)
+    (λ c. search needs)
     returns-2
-    add-i
+    (λ c. search needs)
     loop-less
     loop-again
     returns-3)

@@ -9,9 +9,6 @@ use Rattle.number.specs.Text.{outcome, digitOf, atMost}
 use Rattle.number.proofs.one_more.Statement.{statement}
 use Rattle.number.proofs.one_more.Tie as tie
 
-digit-of-requires : tie.Need-digit-of-requires
-digit-of-requires c κs = search needs
-
 returns : tie.Need-returns
 unfolding outcome
 returns c = rw (le-ltb (digitOf (c .before .before .args .c)) (c .before .before .args .base) (omega arith))
@@ -23,9 +20,6 @@ product c = mul-le-mul {n₂ = 65535} {m₂ = 255} (omega arith) (omega arith)
 mul-next : tie.Need-mul-next
 mul-next c = omega (arith, product c)
 
-cast-next : tie.Need-cast-next
-cast-next c = search needs
-
 add-next : tie.Need-add-next
 add-next c = omega (arith, product c)
 
@@ -34,9 +28,6 @@ unfolding outcome atMost
 returns-2 c =
     let a = c .before .before .before .args in
     rw (lt-ltb (digitOf (a .c)) (a .base) (omega arith), lt-leb (a .v * a .base + digitOf (a .c)) (a .limit) (omega arith))
-
-cast-t12 : tie.Need-cast-t12
-cast-t12 c = search needs
 
 returns-3 : tie.Need-returns-3
 unfolding outcome atMost
@@ -52,4 +43,4 @@ returns-3 c =
 pub one-more-spec : {M : Type 1} → statement M
 one-more-spec =
     tie.close
-    (tie.spec digit-of-requires returns mul-next cast-next add-next returns-2 cast-t12 returns-3)
+    (tie.spec (λ c κs. search needs) returns mul-next (λ c. search needs) add-next returns-2 (λ c. search needs) returns-3)

@@ -10,16 +10,10 @@ use Rattle.number.proofs.Laws.{body-le, body-take}
 use Rattle.number.proofs.parse.Statement.{statement}
 use Rattle.number.proofs.parse.Tie as tie
 
-body-len-requires : tie.Need-body-len-requires
-body-len-requires c κs = search needs
-
 slice-aggregate-parse-at-most : tie.Need-slice-aggregate-parse-at-most
 slice-aggregate-parse-at-most c =
     let s = now (c .before .before .before .args .s) in
     sym (length-take-le (c .before .body-len .result) s (omega (arith, body-le s, c .before .body-len .ensures)))
-
-parse-at-most-requires : tie.Need-parse-at-most-requires
-parse-at-most-requires c κs = search needs
 
 returns : tie.Need-returns
 unfolding numberText
@@ -30,4 +24,4 @@ returns c =
 pub parse-spec : {M : Type 1} → statement M
 parse-spec =
     tie.close
-    (tie.spec body-len-requires slice-aggregate-parse-at-most parse-at-most-requires returns)
+    (tie.spec (λ c κs. search needs) slice-aggregate-parse-at-most (λ c κs. search needs) returns)

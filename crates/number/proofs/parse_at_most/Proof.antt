@@ -14,23 +14,11 @@ returns : tie.Need-returns
 unfolding outcome numberRule
 returns c = rw (lt-leb (length (now (c .before .before .args .s))) 16 (omega arith))
 
-starts-hex-requires : tie.Need-starts-hex-requires
-starts-hex-requires c κs = search needs
-
-digits-from-requires : tie.Need-digits-from-requires
-digits-from-requires c κs = search needs
-
 returns-2 : tie.Need-returns-2
 unfolding anyBase numberRule
 returns-2 c =
     let s = now (c .before .before .before .before .before .args .s) in
     rw (le-leb (length s) 16 (omega arith), sym (c .before .before .starts-hex .ensures) ∙ c .before .if2 .taken) (c .digits-from .ensures)
-
-first-requires : tie.Need-first-requires
-first-requires c κs = search needs
-
-digits-from-requires-2 : tie.Need-digits-from-requires-2
-digits-from-requires-2 c κs = search needs
 
 returns-3 : tie.Need-returns-3
 unfolding anyBase numberRule
@@ -42,9 +30,6 @@ returns-3 c =
       eq-eqb (getD s 0 0) 48 (sym (c .before .before .first .ensures) ∙ c .before .if3 .taken),
     )
     (c .digits-from2 .ensures)
-
-digits-from-requires-3 : tie.Need-digits-from-requires-3
-digits-from-requires-3 c κs = search needs
 
 returns-4 : tie.Need-returns-4
 unfolding anyBase numberRule
@@ -62,11 +47,11 @@ parse-at-most-spec =
     tie.close
     (tie.spec
     returns
-    starts-hex-requires
-    digits-from-requires
+    (λ c κs. search needs)
+    (λ c κs. search needs)
     returns-2
-    first-requires
-    digits-from-requires-2
+    (λ c κs. search needs)
+    (λ c κs. search needs)
     returns-3
-    digits-from-requires-3
+    (λ c κs. search needs)
     returns-4)

@@ -18,15 +18,9 @@ returns c =
     let s = now (c .before .args .s) in
     rw (List·getD-eq-default s 0 {n = 1} (omega arith)) (sym (and-false (eqb (getD s 0 0) 48)))
 
-shared-slice-read-if2 : tie.Need-shared-slice-read-if2
-shared-slice-read-if2 c = search needs
-
 returns-2 : tie.Need-returns-2
 unfolding startsHex
 returns-2 c = rw (ne-eqb _ _ (c .if2 .taken))
-
-shared-slice-read-result : tie.Need-shared-slice-read-result
-shared-slice-read-result c = search needs
 
 returns-3 : tie.Need-returns-3
 unfolding startsHex
@@ -34,4 +28,4 @@ returns-3 c = rw (eq-eqb _ _ (c .before .if2 .left))
 
 pub starts-hex-spec : {M : Type 1} → statement M
 starts-hex-spec =
-    tie.close (tie.spec returns shared-slice-read-if2 returns-2 shared-slice-read-result returns-3)
+    tie.close (tie.spec returns (λ c. search needs) returns-2 (λ c. search needs) returns-3)

@@ -8,21 +8,12 @@ use borrow.Author.Needs.{needs}
 use Rattle.print.proofs.first.Statement.{statement}
 use Rattle.print.proofs.first.Tie as tie
 
-text-requires : tie.Need-text-requires
-text-requires c κs = search needs
-
-returns : tie.Need-returns
-returns c = search needs
-
 slice-aggregate-text : tie.Need-slice-aggregate-text
 slice-aggregate-text c = sym (length-take-le _ _ (omega arith))
-
-text-requires-2 : tie.Need-text-requires-2
-text-requires-2 c κs = search needs
 
 returns-2 : tie.Need-returns-2
 returns-2 c = c .text2 .ensures ∙ length-take-le _ _ (omega arith) ∙ sym (min-eq-left (omega arith))
 
 pub first-spec : {M : Type 1} → statement M
 first-spec =
-    tie.close (tie.spec text-requires returns slice-aggregate-text text-requires-2 returns-2)
+    tie.close (tie.spec (λ c κs. search needs) (λ c. search needs) slice-aggregate-text (λ c κs. search needs) returns-2)

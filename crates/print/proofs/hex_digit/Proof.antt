@@ -7,15 +7,6 @@ use borrow.Author.Needs.{needs}
 use Rattle.print.proofs.hex_digit.Statement.{statement}
 use Rattle.print.proofs.hex_digit.Tie as tie
 
-add-result : tie.Need-add-result
-add-result c = search needs
-
-sub-result : tie.Need-sub-result
-sub-result c = search needs
-
-add-result-2 : tie.Need-add-result-2
-add-result-2 c = search needs
-
 returns : tie.Need-returns
 unfolding hexDigit
 returns c = rw (lt-ltb (c .before .args .n) 10 (omega arith))
@@ -25,4 +16,4 @@ unfolding hexDigit
 returns-2 c = rw (le-ltb (c .before .args .n) 10 (omega arith)) (omega arith)
 
 pub hex-digit-spec : {M : Type 1} → statement M
-hex-digit-spec = tie.close (tie.spec add-result sub-result add-result-2 returns returns-2)
+hex-digit-spec = tie.close (tie.spec (λ c. search needs) (λ c. search needs) (λ c. search needs) returns returns-2)

@@ -19,45 +19,15 @@ Inv-loop b out₀ i₀ out i = (i ≤ 32) × (length b ≡ 32) × (length out �
 abbrev μ-loop : tie.MeasureT-loop
 μ-loop b out₀ i₀ out i = 32 - i
 
-to-bytes-requires : tie.Need-to-bytes-requires Inv-loop μ-loop
-to-bytes-requires c κs = search needs
-
 loop-holds : tie.Need-loop-holds Inv-loop μ-loop
 unfolding hexOf
 loop-holds c = search needs
-
-array-read-c : tie.Need-array-read-c Inv-loop μ-loop
-array-read-c c = search needs
 
 hex-digit-requires : tie.Need-hex-digit-requires Inv-loop μ-loop
 hex-digit-requires c κs =
     let bytes = c .before .before .to-bytes in
     let small : getD (bytes .result) (c .before .loop .i) 0 < 256 = rw (bytes .ensures) (numbers-words 8 32 (bits (c .before .before .before .args .m)) 0 .small (c .before .loop .i)) in
     omega arith
-
-mul-out : tie.Need-mul-out Inv-loop μ-loop
-mul-out c = search needs
-
-array-write-out : tie.Need-array-write-out Inv-loop μ-loop
-array-write-out c = search needs
-
-hex-digit-requires-2 : tie.Need-hex-digit-requires-2 Inv-loop μ-loop
-hex-digit-requires-2 c κs = search needs
-
-mul-out-2 : tie.Need-mul-out-2 Inv-loop μ-loop
-mul-out-2 c = search needs
-
-add-out : tie.Need-add-out Inv-loop μ-loop
-add-out c = search needs
-
-array-write-out-2 : tie.Need-array-write-out-2 Inv-loop μ-loop
-array-write-out-2 c = search needs
-
-add-i : tie.Need-add-i Inv-loop μ-loop
-add-i c = search needs
-
-loop-less : tie.Need-loop-less Inv-loop μ-loop
-loop-less c = search needs
 
 loop-again : tie.Need-loop-again Inv-loop μ-loop
 loop-again c =
@@ -82,17 +52,17 @@ mask-digits-spec =
     (tie.spec
     Inv-loop
     μ-loop
-    to-bytes-requires
+    (λ c κs. search needs)
     loop-holds
-    array-read-c
+    (λ c. search needs)
     hex-digit-requires
-    mul-out
-    array-write-out
-    hex-digit-requires-2
-    mul-out-2
-    add-out
-    array-write-out-2
-    add-i
-    loop-less
+    (λ c. search needs)
+    (λ c. search needs)
+    (λ c κs. search needs)
+    (λ c. search needs)
+    (λ c. search needs)
+    (λ c. search needs)
+    (λ c. search needs)
+    (λ c. search needs)
     loop-again
     returns)

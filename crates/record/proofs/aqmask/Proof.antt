@@ -7,12 +7,9 @@ use Rattle.record.specs.Layout.{hostIn, maskAt}
 use Rattle.record.proofs.aqmask.Statement.{statement}
 use Rattle.record.proofs.aqmask.Tie as tie
 
-mask-at-requires : tie.Need-mask-at-requires
-mask-at-requires c κs = search needs
-
 returns : tie.Need-returns
 unfolding hostIn maskAt
 returns c = ap (bitAt 64) (c .mask-at .ensures)
 
 pub aqmask-spec : {M : Type 1} → statement M
-aqmask-spec = tie.close (tie.spec mask-at-requires returns)
+aqmask-spec = tie.close (tie.spec (λ c κs. search needs) returns)

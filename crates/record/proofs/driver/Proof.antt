@@ -8,21 +8,6 @@ use Rattle.record.specs.Layout.{driverOf}
 use Rattle.record.proofs.driver.Statement.{statement}
 use Rattle.record.proofs.driver.Tie as tie
 
-cast-b : tie.Need-cast-b
-cast-b c = search needs
-
-mul-b : tie.Need-mul-b
-mul-b c = search needs
-
-cast-b-2 : tie.Need-cast-b-2
-cast-b-2 c = search needs
-
-add-b : tie.Need-add-b
-add-b c = search needs
-
-element-copy-out-b : tie.Need-element-copy-out-b
-element-copy-out-b c = search needs
-
 returns : tie.Need-returns
 unfolding driverOf
 returns c = rw (c .if1 .taken)
@@ -40,4 +25,4 @@ returns-3 c =
 
 pub driver-spec : {M : Type 1} → statement M
 driver-spec =
-    tie.close (tie.spec cast-b mul-b cast-b-2 add-b element-copy-out-b returns returns-2 returns-3)
+    tie.close (tie.spec (λ c. search needs) (λ c. search needs) (λ c. search needs) (λ c. search needs) (λ c. search needs) returns returns-2 returns-3)

@@ -10,18 +10,6 @@ use Rattle.record.proofs.Laws.{cond-below}
 use Rattle.record.proofs.hardware_type.Statement.{statement}
 use Rattle.record.proofs.hardware_type.Tie as tie
 
-cast-result : tie.Need-cast-result
-cast-result c = search needs
-
-add-result : tie.Need-add-result
-add-result c = search needs
-
-mul-result : tie.Need-mul-result
-mul-result c = search needs
-
-element-copy-out-result : tie.Need-element-copy-out-result
-element-copy-out-result c = search needs
-
 returns : tie.Need-returns
 unfolding configIn
 returns c =
@@ -30,4 +18,4 @@ returns c =
 
 pub hardware-type-spec : {M : Type 1} → statement M
 hardware-type-spec =
-    tie.close (tie.spec cast-result add-result mul-result element-copy-out-result returns)
+    tie.close (tie.spec (λ c. search needs) (λ c. search needs) (λ c. search needs) (λ c. search needs) returns)

@@ -14,15 +14,6 @@ use Rattle.record.proofs.Laws.{device-there, device-past, numbers-there
 use Rattle.record.proofs.numbers.Statement.{statement}
 use Rattle.record.proofs.numbers.Tie as tie
 
-mul-mask-at : tie.Need-mul-mask-at
-mul-mask-at c = search needs
-
-add-mask-at : tie.Need-add-mask-at
-add-mask-at c = search needs
-
-kind-at-requires : tie.Need-kind-at-requires
-kind-at-requires c κs = search needs
-
 add-mask-at-2 : tie.Need-add-mask-at-2
 add-mask-at-2 c = omega (arith, kind-small (c .before .before .args .kind))
 
@@ -35,9 +26,6 @@ returns c =
     let a = c .before .before .before .args in
     ap (bitAt 64) (c .mask-at .ensures) ∙ ap (λ (n : ℕ). maskAt (a .words .now) (278 + a .slot * 16 + n)) (c .before .kind-at .ensures)
     ∙ sym (numbers-there (a .words .now) (a .slot) (a .kind)) ∙ ap (numbersOf (a .kind)) (sym (device-there (a .words .now) (a .slot) (omega arith)))
-
-empty-requires : tie.Need-empty-requires
-empty-requires c κs = search needs
 
 returns-2 : tie.Need-returns-2
 unfolding numbersOf noDevice
@@ -54,11 +42,11 @@ pub numbers-spec : {M : Type 1} → statement M
 numbers-spec =
     tie.close
     (tie.spec
-    mul-mask-at
-    add-mask-at
-    kind-at-requires
+    (λ c. search needs)
+    (λ c. search needs)
+    (λ c κs. search needs)
     add-mask-at-2
     mask-at-requires
     returns
-    empty-requires
+    (λ c κs. search needs)
     returns-2)

@@ -9,18 +9,6 @@ use Rattle.record.proofs.Laws.{device-there, device-past}
 use Rattle.record.proofs.present.Statement.{statement}
 use Rattle.record.proofs.present.Tie as tie
 
-mul-result : tie.Need-mul-result
-mul-result c = search needs
-
-add-result : tie.Need-add-result
-add-result c = search needs
-
-mul-result-2 : tie.Need-mul-result-2
-mul-result-2 c = search needs
-
-element-copy-out-result : tie.Need-element-copy-out-result
-element-copy-out-result c = search needs
-
 returns : tie.Need-returns
 unfolding flag
 returns c =
@@ -36,4 +24,4 @@ returns-2 c =
 pub present-spec : {M : Type 1} → statement M
 present-spec =
     tie.close
-    (tie.spec mul-result add-result mul-result-2 element-copy-out-result returns returns-2)
+    (tie.spec (λ c. search needs) (λ c. search needs) (λ c. search needs) (λ c. search needs) returns returns-2)

@@ -11,18 +11,6 @@ use Rattle.record.specs.Layout.{putFour, putTypes, putConfig}
 use Rattle.record.proofs.put_configuration.Statement.{statement}
 use Rattle.record.proofs.put_configuration.Tie as tie
 
-put-mask-requires : tie.Need-put-mask-requires
-put-mask-requires c κs = search needs
-
-put-mask-requires-2 : tie.Need-put-mask-requires-2
-put-mask-requires-2 c κs = search needs
-
-put-mask-requires-3 : tie.Need-put-mask-requires-3
-put-mask-requires-3 c κs = search needs
-
-put-types-requires : tie.Need-put-types-requires
-put-types-requires c κs = search needs
-
 returns : tie.Need-returns
 unfolding putConfig
 returns c =
@@ -35,4 +23,4 @@ returns c =
 pub put-configuration-spec : {M : Type 1} → statement M
 put-configuration-spec =
     tie.close
-    (tie.spec put-mask-requires put-mask-requires-2 put-mask-requires-3 put-types-requires returns)
+    (tie.spec (λ c κs. search needs) (λ c κs. search needs) (λ c κs. search needs) (λ c κs. search needs) returns)

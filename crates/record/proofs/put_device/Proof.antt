@@ -13,33 +13,6 @@ use Rattle.record.proofs.Laws.{cond-below, cond-past}
 use Rattle.record.proofs.put_device.Statement.{statement}
 use Rattle.record.proofs.put_device.Tie as tie
 
-mul-k : tie.Need-mul-k
-mul-k c = search needs
-
-add-k : tie.Need-add-k
-add-k c = search needs
-
-put-mask-requires : tie.Need-put-mask-requires
-put-mask-requires c κs = search needs
-
-add-put-mask : tie.Need-add-put-mask
-add-put-mask c = search needs
-
-put-mask-requires-2 : tie.Need-put-mask-requires-2
-put-mask-requires-2 c κs = search needs
-
-add-put-mask-2 : tie.Need-add-put-mask-2
-add-put-mask-2 c = search needs
-
-put-mask-requires-3 : tie.Need-put-mask-requires-3
-put-mask-requires-3 c κs = search needs
-
-add-put-mask-3 : tie.Need-add-put-mask-3
-add-put-mask-3 c = search needs
-
-put-mask-requires-4 : tie.Need-put-mask-requires-4
-put-mask-requires-4 c κs = search needs
-
 returns : tie.Need-returns
 unfolding putDevice
 returns c =
@@ -64,14 +37,14 @@ pub put-device-spec : {M : Type 1} → statement M
 put-device-spec =
     tie.close
     (tie.spec
-    mul-k
-    add-k
-    put-mask-requires
-    add-put-mask
-    put-mask-requires-2
-    add-put-mask-2
-    put-mask-requires-3
-    add-put-mask-3
-    put-mask-requires-4
+    (λ c. search needs)
+    (λ c. search needs)
+    (λ c κs. search needs)
+    (λ c. search needs)
+    (λ c κs. search needs)
+    (λ c. search needs)
+    (λ c κs. search needs)
+    (λ c. search needs)
+    (λ c κs. search needs)
     returns
     returns-2)

@@ -10,15 +10,6 @@ use Rattle.record.proofs.Laws.{cond-below, cond-past, kind-small}
 use Rattle.record.proofs.put_numbers.Statement.{statement}
 use Rattle.record.proofs.put_numbers.Tie as tie
 
-mul-put-mask : tie.Need-mul-put-mask
-mul-put-mask c = search needs
-
-add-put-mask : tie.Need-add-put-mask
-add-put-mask c = search needs
-
-kind-at-requires : tie.Need-kind-at-requires
-kind-at-requires c κs = search needs
-
 add-put-mask-2 : tie.Need-add-put-mask-2
 add-put-mask-2 c = omega (arith, kind-small (c .before .before .before .args .kind))
 
@@ -42,9 +33,9 @@ pub put-numbers-spec : {M : Type 1} → statement M
 put-numbers-spec =
     tie.close
     (tie.spec
-    mul-put-mask
-    add-put-mask
-    kind-at-requires
+    (λ c. search needs)
+    (λ c. search needs)
+    (λ c κs. search needs)
     add-put-mask-2
     put-mask-requires
     returns

@@ -13,21 +13,6 @@ use Rattle.record.proofs.Laws.{cond-below, cond-past}
 use Rattle.record.proofs.put_open.Statement.{statement}
 use Rattle.record.proofs.put_open.Tie as tie
 
-mul-words : tie.Need-mul-words
-mul-words c = search needs
-
-add-words : tie.Need-add-words
-add-words c = search needs
-
-add-words-2 : tie.Need-add-words-2
-add-words-2 c = search needs
-
-mul-words-2 : tie.Need-mul-words-2
-mul-words-2 c = search needs
-
-element-write-words : tie.Need-element-write-words
-element-write-words c = search needs
-
 returns : tie.Need-returns
 unfolding putOpen
 returns c =
@@ -43,4 +28,4 @@ returns-2 c =
     sym (cond-past (a .slot) slots (set (a .words .now) (deviceAt (a .slot) + 1) (cond (a .opened) 1 0)) (a .words .now) (omega arith))
 
 pub put-open-spec : {M : Type 1} → statement M
-put-open-spec = tie.close (tie.spec mul-words add-words add-words-2 mul-words-2 element-write-words returns returns-2)
+put-open-spec = tie.close (tie.spec (λ c. search needs) (λ c. search needs) (λ c. search needs) (λ c. search needs) (λ c. search needs) returns returns-2)

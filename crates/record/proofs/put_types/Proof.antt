@@ -23,33 +23,6 @@ loop-holds : tie.Need-loop-holds Inv-loop μ-loop
 unfolding putTypes
 loop-holds c = (omega arith, refl)
 
-cast-has : tie.Need-cast-has Inv-loop μ-loop
-cast-has c = search needs
-
-has-requires : tie.Need-has-requires Inv-loop μ-loop
-has-requires c κs = search needs
-
-array-read-type-of : tie.Need-array-read-type-of Inv-loop μ-loop
-array-read-type-of c = search needs
-
-type-of-requires : tie.Need-type-of-requires Inv-loop μ-loop
-type-of-requires c κs = search needs
-
-add-words : tie.Need-add-words Inv-loop μ-loop
-add-words c = search needs
-
-mul-words : tie.Need-mul-words Inv-loop μ-loop
-mul-words c = search needs
-
-element-write-words : tie.Need-element-write-words Inv-loop μ-loop
-element-write-words c = search needs
-
-add-a : tie.Need-add-a Inv-loop μ-loop
-add-a c = search needs
-
-loop-less : tie.Need-loop-less Inv-loop μ-loop
-loop-less c = search needs
-
 loop-again : tie.Need-loop-again Inv-loop μ-loop
 loop-again c =
     let a = c .before .before .before .loop .a in
@@ -74,14 +47,14 @@ put-types-spec =
     Inv-loop
     μ-loop
     loop-holds
-    cast-has
-    has-requires
-    array-read-type-of
-    type-of-requires
-    add-words
-    mul-words
-    element-write-words
-    add-a
-    loop-less
+    (λ c. search needs)
+    (λ c κs. search needs)
+    (λ c. search needs)
+    (λ c κs. search needs)
+    (λ c. search needs)
+    (λ c. search needs)
+    (λ c. search needs)
+    (λ c. search needs)
+    (λ c. search needs)
     loop-again
     returns)

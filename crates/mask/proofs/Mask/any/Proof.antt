@@ -10,18 +10,6 @@ use Rattle.mask.proofs.Laws.{mask-words, some-next, none-some}
 use Rattle.mask.proofs.Mask.any.Statement.{statement}
 use Rattle.mask.proofs.Mask.any.Tie as tie
 
-array-read-result : tie.Need-array-read-result
-array-read-result c = search needs
-
-array-read-result-2 : tie.Need-array-read-result-2
-array-read-result-2 c = search needs
-
-array-read-result-3 : tie.Need-array-read-result-3
-array-read-result-3 c = search needs
-
-array-read-result-4 : tie.Need-array-read-result-4
-array-read-result-4 c = search needs
-
 returns : tie.Need-returns
 returns c =
     let x = c .before .args .self .words in
@@ -34,8 +22,8 @@ pub any-spec : {M : Type 1} → statement M
 any-spec =
     tie.close
     (tie.spec
-    array-read-result
-    array-read-result-2
-    array-read-result-3
-    array-read-result-4
+    (λ c. search needs)
+    (λ c. search needs)
+    (λ c. search needs)
+    (λ c. search needs)
     returns)

@@ -41,32 +41,8 @@ past : (n i : ℕ) → 256 ≤ i → bitsAbove n i ≡ false
 unfolding bitsAbove
 past n i l = ap (λ (b : Bool). ltb n i && b) (le-ltb i 256 l) ∙ and-false (ltb n i)
 
-cast-part : tie.Need-cast-part
-cast-part c = search needs
-
-sub-part : tie.Need-sub-part
-sub-part c = search needs
-
-cast-part-2 : tie.Need-cast-part-2
-cast-part-2 c = search needs
-
-shl-part : tie.Need-shl-part
-shl-part c = search needs
-
 sub-part-2 : tie.Need-sub-part-2
 sub-part-2 c = one-shl-pos 64 _ (omega arith)
-
-beyond-word-requires : tie.Need-beyond-word-requires
-beyond-word-requires c κs = search needs
-
-beyond-word-requires-2 : tie.Need-beyond-word-requires-2
-beyond-word-requires-2 c κs = search needs
-
-beyond-word-requires-3 : tie.Need-beyond-word-requires-3
-beyond-word-requires-3 c κs = search needs
-
-beyond-word-requires-4 : tie.Need-beyond-word-requires-4
-beyond-word-requires-4 c κs = search needs
 
 returns : tie.Need-returns
 unfolding bitsAbove
@@ -85,13 +61,13 @@ pub beyond-spec : {M : Type 1} → statement M
 beyond-spec =
     tie.close
     (tie.spec
-    cast-part
-    sub-part
-    cast-part-2
-    shl-part
+    (λ c. search needs)
+    (λ c. search needs)
+    (λ c. search needs)
+    (λ c. search needs)
     sub-part-2
-    beyond-word-requires
-    beyond-word-requires-2
-    beyond-word-requires-3
-    beyond-word-requires-4
+    (λ c κs. search needs)
+    (λ c κs. search needs)
+    (λ c κs. search needs)
+    (λ c κs. search needs)
     returns)

@@ -12,12 +12,6 @@ use Rattle.mask.proofs.Laws.{mask-words, count-next, count-le}
 use Rattle.mask.proofs.Mask.count.Statement.{statement}
 use Rattle.mask.proofs.Mask.count.Tie as tie
 
-array-read-result : tie.Need-array-read-result
-array-read-result c = search needs
-
-array-read-result-2 : tie.Need-array-read-result-2
-array-read-result-2 c = search needs
-
 -- a word has at most 64 ones
 tops : (c : tie.After-x) (q : ℕ) → ones (getD (c .before .args .self .words) q 0) ≤ 64
 tops c q = ones-le 64 (getD (c .before .args .self .words) q 0) (mask-words (c .before .args .self) (c .before .good .0) .small q)
@@ -25,14 +19,8 @@ tops c q = ones-le 64 (getD (c .before .args .self .words) q 0) (mask-words (c .
 add-result : tie.Need-add-result
 add-result c = omega (arith, tops c 0, tops c 1, tops c 2, tops c 3)
 
-array-read-result-3 : tie.Need-array-read-result-3
-array-read-result-3 c = search needs
-
 add-result-2 : tie.Need-add-result-2
 add-result-2 c = omega (arith, tops c 0, tops c 1, tops c 2, tops c 3)
-
-array-read-result-4 : tie.Need-array-read-result-4
-array-read-result-4 c = search needs
 
 add-result-3 : tie.Need-add-result-3
 add-result-3 c = omega (arith, tops c 0, tops c 1, tops c 2, tops c 3)
@@ -48,11 +36,11 @@ pub count-spec : {M : Type 1} → statement M
 count-spec =
     tie.close
     (tie.spec
-    array-read-result
-    array-read-result-2
+    (λ c. search needs)
+    (λ c. search needs)
     add-result
-    array-read-result-3
+    (λ c. search needs)
     add-result-2
-    array-read-result-4
+    (λ c. search needs)
     add-result-3
     returns)

@@ -12,33 +12,6 @@ use Rattle.mask.proofs.Laws.{mask-words, bit-set}
 use Rattle.mask.proofs.Mask.with.Statement.{statement}
 use Rattle.mask.proofs.Mask.with.Tie as tie
 
-cast-k : tie.Need-cast-k
-cast-k c = search needs
-
-mul-w : tie.Need-mul-w
-mul-w c = search needs
-
-array-read-w : tie.Need-array-read-w
-array-read-w c = search needs
-
-cast-w : tie.Need-cast-w
-cast-w c = search needs
-
-sub-w : tie.Need-sub-w
-sub-w c = search needs
-
-cast-w-2 : tie.Need-cast-w-2
-cast-w-2 c = search needs
-
-shl-w : tie.Need-shl-w
-shl-w c = search needs
-
-mul-w-2 : tie.Need-mul-w-2
-mul-w-2 c = search needs
-
-array-write-w : tie.Need-array-write-w
-array-write-w c = search needs
-
 returns : tie.Need-returns
 unfolding included
 returns c =
@@ -51,4 +24,4 @@ returns c =
 pub with-spec : {M : Type 1} → statement M
 with-spec =
     tie.close
-    (tie.spec cast-k mul-w array-read-w cast-w sub-w cast-w-2 shl-w mul-w-2 array-write-w returns)
+    (tie.spec (λ c. search needs) (λ c. search needs) (λ c. search needs) (λ c. search needs) (λ c. search needs) (λ c. search needs) (λ c. search needs) (λ c. search needs) (λ c. search needs) returns)

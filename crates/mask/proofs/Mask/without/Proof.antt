@@ -12,33 +12,6 @@ use Rattle.mask.proofs.Laws.{mask-words, bit-clear}
 use Rattle.mask.proofs.Mask.without.Statement.{statement}
 use Rattle.mask.proofs.Mask.without.Tie as tie
 
-cast-k : tie.Need-cast-k
-cast-k c = search needs
-
-mul-x : tie.Need-mul-x
-mul-x c = search needs
-
-array-read-x : tie.Need-array-read-x
-array-read-x c = search needs
-
-cast-w : tie.Need-cast-w
-cast-w c = search needs
-
-sub-w : tie.Need-sub-w
-sub-w c = search needs
-
-cast-w-2 : tie.Need-cast-w-2
-cast-w-2 c = search needs
-
-shl-w : tie.Need-shl-w
-shl-w c = search needs
-
-mul-w : tie.Need-mul-w
-mul-w c = search needs
-
-array-write-w : tie.Need-array-write-w
-array-write-w c = search needs
-
 returns : tie.Need-returns
 unfolding excluded
 returns c =
@@ -51,4 +24,4 @@ returns c =
 pub without-spec : {M : Type 1} → statement M
 without-spec =
     tie.close
-    (tie.spec cast-k mul-x array-read-x cast-w sub-w cast-w-2 shl-w mul-w array-write-w returns)
+    (tie.spec (λ c. search needs) (λ c. search needs) (λ c. search needs) (λ c. search needs) (λ c. search needs) (λ c. search needs) (λ c. search needs) (λ c. search needs) (λ c. search needs) returns)
