@@ -1,4 +1,4 @@
--- The listing of a matrix (01, "Listing a matrix"): a line of eight bytes for each queue, by ascending queue.
+-- The listing of a matrix (RULES.md, "Listing"): a line of eight bytes for each queue, by ascending queue.
 -- Assumes nothing.
 use Prim.Native.Nat.{ℕ, zero, suc, _+_, _-_, _/_, _%_}
 use mathlib.Core.Bool.{cond}

@@ -1,4 +1,4 @@
--- The text of a mask (01, "Text", and 003): hex digits after 0x, or a list of items that are worked on the old mask.
+-- The text of a mask (RULES.md, "Text"): hex digits after 0x, or a list of items that are worked on the old mask.
 -- Assumes nothing.
 use Prim.Native.Nat.{ℕ}
 use mathlib.Core.Bool.{Bool, true, false, cond, _&&_}

@@ -1,4 +1,5 @@
--- Demand 3: one statement on every list of commands and moves on a fresh record of any limits.
+-- Demand 3 (RULES.md, "Reference model and demand 3"): one statement on every list of commands and moves on a fresh record
+-- of any limits.
 -- Assumes nothing.
 use Prim.Native.Nat.{ℕ, _<_, _+_, _*_}
 use mathlib.Core.Bool.{true}

@@ -1,4 +1,4 @@
--- Where a queue belongs, moves, the moves remaining, and guest masks (01, "Where a queue belongs" and "Guest masks").
+-- Reserved queues, targets, moves, the moves remaining, and guest masks (RULES.md, sections of these names).
 -- Assumes nothing.
 use Prim.Native.Nat.{ℕ, zero, suc, _+_, _-_, _*_, _<_, min}
 use mathlib.Core.Bool.{Bool, true, false, cond, not, _&&_}

@@ -1,4 +1,4 @@
--- A sweep as the moves that it makes, in order.
+-- A sweep as the moves that it makes, in order (RULES.md, "Moves").
 -- Assumes nothing.
 use Prim.Native.Nat.{ℕ, zero, suc, _+_, _-_, _≤_, min}
 use mathlib.Core.Bool.{Bool, false, not}

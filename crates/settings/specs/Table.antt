@@ -1,4 +1,4 @@
--- 01's "Settings to try" that are marked *: inputs and outcomes, one row for each.
+-- The worked settings that are marked P (RULES.md, "Settings"): inputs and outcomes, one row or more for each.
 -- Assumes nothing.
 use Prim.Native.Nat.{ℕ, _+_, _*_}
 use Prim.Native.String.{String}
