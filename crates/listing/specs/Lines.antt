@@ -43,7 +43,7 @@ linesOf (q ∷ qs) = lineOf q ++ linesOf qs
 unfoldable pub fitting : ℕ → ℕ → Bits → List ℕ
 fitting n place m = take (n / lineSize) (queuesAt place m)
 
--- the next place: one past the last line if more remain, else one past the last queue
+-- where to go on: just after the last queue written where more are to come, else past all queues
 unfoldable pub nextPlace : ℕ → ℕ → Bits → ℕ
 nextPlace n place m =
     cond (leb (length (queuesAt place m)) (n / lineSize)) queues (getD (queuesAt place m) (n / lineSize - 1) 0 + 1)

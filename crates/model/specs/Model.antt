@@ -194,7 +194,7 @@ unfoldable pub judged : List Check → Model → Model → Reply
 judged [] m done = record { errno = 0; next = done }
 judged (c ∷ cs) m done = cond (c .when) (record { errno = numberOf (c .errno); next = m }) (judged cs m done)
 
--- text is read before anything else is checked
+-- bad text is refused before any check
 unfoldable pub withText : {A : Type 0} → Outcome A → Model → (A → Reply) → Reply
 withText (granted a) m next = next a
 withText (refused e) m next = record { errno = numberOf e; next = m }

@@ -14,7 +14,7 @@ use Rattle.rules.specs.declared.Moved.{Moved}
 use Rattle.rules.specs.declared.Moved.the-variants.{Idle, Released, BoundHost, BoundPassthrough}
 use Rattle.rules.specs.State.{State, HostMasks, Config, Device, inProduct, apid, queues}
 
--- reserved for the host: its APID is in apmask and its APQI is in aqmask
+-- reserved for the host: apmask has its adapter, and aqmask its domain too
 unfoldable pub reserved : HostMasks → Bits
 reserved h = inProduct (h .apmask) (h .aqmask)
 
