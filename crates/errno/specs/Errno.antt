@@ -1,4 +1,4 @@
--- 01's table of refusals: the number and the name of each of the eight cases.
+-- The table of refusals (RULES.md, "Refusals"): the number and the name of each of the eight cases.
 -- Assumes nothing.
 use Prim.Native.Nat.{ℕ}
 use mathlib.Core.List.{List, [], _∷_}

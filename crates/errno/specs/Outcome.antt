@@ -1,4 +1,4 @@
--- What a call comes to. Each answer that is an enum has a definition that gives its outcome.
+-- What a call comes to. For each kind of answer a definition says which outcome it is.
 -- Assumes nothing.
 use Rattle.errno.specs.declared.Errno.{Errno}
 

@@ -1,6 +1,6 @@
 // The eight errno values of the assignment service, with their names, as one constant table.
 //
-// Rests on nothing. Every other crate says why it refuses by an `Errno`.
+// Rests on nothing. Crates that refuse say why by an `Errno`.
 ghost use mathlib.Core.Path.{_≡_};
 ghost use Prim.Native.Nat.{_-_};
 ghost use mathlib.Core.List.{_++_};

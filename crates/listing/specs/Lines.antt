@@ -1,4 +1,4 @@
--- The listing of a matrix (01, "Listing a matrix"): a line of eight bytes for each queue, by ascending queue.
+-- The listing of a matrix (RULES.md, "Listing"): a line of eight bytes for each queue, by ascending queue.
 -- Assumes nothing.
 use Prim.Native.Nat.{ℕ, zero, suc, _+_, _-_, _/_, _%_}
 use mathlib.Core.Bool.{cond}
@@ -43,7 +43,7 @@ linesOf (q ∷ qs) = lineOf q ++ linesOf qs
 unfoldable pub fitting : ℕ → ℕ → Bits → List ℕ
 fitting n place m = take (n / lineSize) (queuesAt place m)
 
--- the next place: one past the last line if more remain, else one past the last queue
+-- where to go on: just after the last queue written where more are to come, else past all queues
 unfoldable pub nextPlace : ℕ → ℕ → Bits → ℕ
 nextPlace n place m =
     cond (leb (length (queuesAt place m)) (n / lineSize)) queues (getD (queuesAt place m) (n / lineSize - 1) 0 + 1)

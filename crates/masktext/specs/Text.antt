@@ -1,4 +1,4 @@
--- The text of a mask (01, "Text", and 003): hex digits after 0x, or a list of items that are worked on the old mask.
+-- The text of a mask (RULES.md, "Text"): hex digits after 0x, or a list of items that are worked on the old mask.
 -- Assumes nothing.
 use Prim.Native.Nat.{ℕ}
 use mathlib.Core.Bool.{Bool, true, false, cond, _&&_}
@@ -54,6 +54,6 @@ unfoldable pub parts : List ℕ → List (List ℕ)
 parts [] = [] ∷ []
 parts (c ∷ cs) = cond (eqb c 44) ([] ∷ parts cs) (before c (parts cs))
 
--- the text of a mask: one final newline is allowed after either form
+-- the text of a mask, in either form, with or without a newline at its end
 unfoldable pub maskText : List ℕ → Bits → Outcome Bits
 maskText s old = cond (startsHex (body s)) (hexMask (drop 2 (body s))) (items old (parts (body s)))

@@ -1,4 +1,5 @@
--- Demand 3: one statement on every list of commands and moves on a fresh record of any limits.
+-- Demand 3 (RULES.md, "Reference model and demand 3"): one statement on every list of commands and moves on a fresh record
+-- of any limits.
 -- Assumes nothing.
 use Prim.Native.Nat.{ℕ, _<_, _+_, _*_}
 use mathlib.Core.Bool.{true}
@@ -36,7 +37,7 @@ pub record Follows (s : State) (m : Model) : Type 0 where
 pub record Demand3 (l : Limits) (steps : List Step) (s : State) : Type 0 where
   -- 1: each command's answer is the model's
   pub answered : answers steps (fresh l) ≡ replies (commandsOf steps) (start (l .adapter) (l .domain))
-  -- 2: ids, open marks, assigned masks, host masks and configuration are the model's
+  -- 2: host masks, configuration and devices (ids, open marks, assigned masks) are the model's
   pub keeps : Kept s (kept (commandsOf steps) (start (l .adapter) (l .domain)))
   -- 3: no queue is usable by two guests, nor by a guest while a host driver holds it
   pub apart : (p j q : ℕ) → p < slots → j < slots → q < queues → usable s (s .device p) q ≡ true → usable s (s .device j) q ≡ true → p ≡ j

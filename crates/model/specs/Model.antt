@@ -1,5 +1,5 @@
--- The reference model of demand 3 (01's "book"). It is fed commands and nothing else, and sees no move and no driver: a
--- queue's driver is always its target. It is written from 01's tables, over pairs of an APID and an APQI.
+-- The reference model (RULES.md, "Reference model and demand 3"). It is fed commands and nothing else, and sees no move and
+-- no driver: a queue's driver is always its target. It is written over pairs of an APID and an APQI, apart from the rules.
 -- Assumes nothing.
 use Prim.Native.Nat.{ℕ, zero, suc}
 use mathlib.Core.Bool.{Bool, true, false, cond, not, _&&_}
@@ -194,12 +194,12 @@ unfoldable pub judged : List Check → Model → Model → Reply
 judged [] m done = record { errno = 0; next = done }
 judged (c ∷ cs) m done = cond (c .when) (record { errno = numberOf (c .errno); next = m }) (judged cs m done)
 
--- text is read before anything else is checked
+-- bad text is refused before any check
 unfoldable pub withText : {A : Type 0} → Outcome A → Model → (A → Reply) → Reply
 withText (granted a) m next = next a
 withText (refused e) m next = record { errno = numberOf e; next = m }
 
--- 01's table of commands: the checks in their order, and the effect
+-- the table of commands (RULES.md, "Commands"): the checks in their order, and the effect
 unfoldable pub reply : Command → Model → Reply
 reply (create i) m =
     judged (record { when = known i m; errno = Eexist } ∷ record { when = not (room m); errno = Enospc } ∷ []) m
@@ -241,7 +241,7 @@ reply (configure c) m =
     ∷ [])
     m (given c m)
 
--- the model of a fresh desk
+-- the model of a fresh record
 unfoldable pub start : ℕ → ℕ → Model
 start a d =
     record {

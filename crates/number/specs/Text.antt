@@ -1,4 +1,4 @@
--- The text of a number (01, "Text"): decimal, hex after 0x, or octal after a leading 0.
+-- The text of a number (RULES.md, "Text"): base 16 after 0x, base 8 after a leading 0, else base 10.
 -- Assumes nothing.
 use Prim.Native.Nat.{ℕ, _+_, _-_, _*_}
 use mathlib.Core.Bool.{Bool, true, false, cond, _&&_}

@@ -1,4 +1,4 @@
-// Reads the text of a number: decimal, hex after 0x, or octal after a leading 0.
+// Reads the text of a number: base 16 after 0x, base 8 after a leading 0, else base 10.
 //
 // Rests on errno.
 ghost use mathlib.Core.Path.{_≡_};

@@ -1,6 +1,6 @@
 // The record in memory that the caller lends: get and put of each part. No other crate sees where a part lies.
 //
-// Rests on mask and rules.
+// Rests on errno, mask and rules.
 use mask::Apid;
 use mask::Apqi;
 use mask::Mask;

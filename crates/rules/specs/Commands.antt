@@ -1,4 +1,4 @@
--- The commands, with their checks in the order of 01's table. A refusal changes nothing.
+-- The commands, with their checks in order (RULES.md, "Commands"). A refusal changes nothing.
 -- Assumes nothing.
 use Prim.Native.Nat.{ℕ, zero, suc}
 use mathlib.Core.Bool.{Bool, true, false, cond, not, _&&_, _||_}

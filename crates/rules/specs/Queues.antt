@@ -1,4 +1,4 @@
--- Where a queue belongs, moves, the moves remaining, and guest masks (01, "Where a queue belongs" and "Guest masks").
+-- Reserved queues, targets, moves, the moves remaining, and guest masks (RULES.md, sections of these names).
 -- Assumes nothing.
 use Prim.Native.Nat.{ℕ, zero, suc, _+_, _-_, _*_, _<_, min}
 use mathlib.Core.Bool.{Bool, true, false, cond, not, _&&_}
@@ -14,7 +14,7 @@ use Rattle.rules.specs.declared.Moved.{Moved}
 use Rattle.rules.specs.declared.Moved.the-variants.{Idle, Released, BoundHost, BoundPassthrough}
 use Rattle.rules.specs.State.{State, HostMasks, Config, Device, inProduct, apid, queues}
 
--- reserved for the host: its APID is in apmask and its APQI is in aqmask
+-- reserved for the host: apmask has its adapter, and aqmask its domain too
 unfoldable pub reserved : HostMasks → Bits
 reserved h = inProduct (h .apmask) (h .aqmask)
 

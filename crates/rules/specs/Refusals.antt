@@ -1,4 +1,4 @@
--- Demand 2's sentence: when an assignment is refused.
+-- Demand 2's sentence (RULES.md, "Refusals"): when an assignment is refused.
 -- Assumes nothing.
 use Prim.Native.Nat.{ℕ, _≤_, _<_}
 use mathlib.Core.Bool.{true}

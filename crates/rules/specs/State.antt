@@ -1,4 +1,4 @@
--- What the service keeps (01, "The desk's record"), as sets of numbers and functions of numbers.
+-- What the service keeps (RULES.md, "Record"), as sets of numbers and functions of numbers.
 -- A queue is named by APID x 256 + APQI, so ascending queues are by ascending APID, then APQI.
 -- Assumes nothing.
 use Prim.Native.Nat.{ℕ, _+_, _*_, _/_, _%_}
@@ -76,7 +76,7 @@ inProduct adapters domains q = adapters (apid q) && domains (apqi q)
 unfoldable pub noDevice : Device
 noDevice = record { present = false; isOpen = false; id = record { hi = 0; lo = 0 }; adapters = noBits; domains = noBits; controls = noBits }
 
--- 01's fresh desk
+-- a fresh record
 unfoldable pub fresh : Limits → State
 fresh l =
     record {

@@ -1,4 +1,4 @@
--- A sweep as the moves that it makes, in order.
+-- A sweep as the moves that it makes, in order (RULES.md, "Moves").
 -- Assumes nothing.
 use Prim.Native.Nat.{ℕ, zero, suc, _+_, _-_, _≤_, min}
 use mathlib.Core.Bool.{Bool, false, not}
@@ -36,7 +36,7 @@ pub record Sweep (b : ℕ) (s t : State) (used : ℕ) (more : Bool) : Type 0 whe
   -- it makes these moves, in this order, and none of them is idle
   pub made : t ≡ moveEach (swept b s) s
   pub due : EachDue (swept b s) s
-  -- it reports their number, which is the smaller of the budget and the moves remaining
+  -- it reports their number: the budget or what remained, whichever is less
   pub number : used ≡ length (swept b s)
   pub smaller : used ≡ movesUsed b s
   -- the moves remaining are so many fewer

@@ -47,7 +47,7 @@ pub struct Id {
     pub lo: u64,
 }
 
-// What the partition is given: adapters, usage domains, control domains, and a hardware type for each adapter.
+// What the partition is given: three masks, and for each adapter its hardware type.
 pub struct Configuration {
     pub adapters: Mask,
     pub domains: Mask,

@@ -1,6 +1,7 @@
 // Carries out a list of commands, moves and sweeps, with demand 3 as its contract.
 //
-// Rests on everything below: it calls the functions that a caller would.
+// Rests on errno, mask, rules, record, setup, bind, devices, assign, host, model, fields, encoding and calls. It calls the
+// functions that a caller would.
 use mask::Apid;
 use mask::Apqi;
 use record::Drivers;

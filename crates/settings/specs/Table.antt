@@ -1,4 +1,4 @@
--- 01's "Settings to try" that are marked *: inputs and outcomes, one row for each.
+-- The worked settings that are marked P (RULES.md, "Settings"): inputs and outcomes, one row or more for each.
 -- Assumes nothing.
 use Prim.Native.Nat.{ℕ, _+_, _*_}
 use Prim.Native.String.{String}
@@ -152,7 +152,7 @@ table =
     ∷ reserves "0xffff" "0x40" 15 0 false
     -- 5: two devices whose products have no queue in common
     ∷ answering 255 twoDevices (0 ∷ 0 ∷ 0 ∷ 0 ∷ 0 ∷ 0 ∷ 0 ∷ 0 ∷ 0 ∷ 0 ∷ 0 ∷ [])
-    -- 6: then the second asks for domain 6
+    -- 6: domain 6 for the second as well
     ∷ answering 255 (twoDevices ++ (domain 2 "6" ∷ [])) (0 ∷ 0 ∷ 0 ∷ 0 ∷ 0 ∷ 0 ∷ 0 ∷ 0 ∷ 0 ∷ 0 ∷ 0 ∷ 98 ∷ [])
     -- 7: on a fresh record adapter 5 is accepted, and then domain 4 is reserved
     ∷ answering 255 (new 1 ∷ adapter 1 "5" ∷ domain 1 "4" ∷ []) (0 ∷ 0 ∷ 99 ∷ [])
@@ -162,7 +162,7 @@ table =
     ∷ guests oneUnbound (5 ∷ []) (4 ∷ 171 ∷ [])
     -- 10: with domain 171 no longer configured
     ∷ guests (oneUnbound ++ (config (5 ∷ 6 ∷ []) (4 ∷ []) ∷ [])) (5 ∷ 6 ∷ []) (4 ∷ [])
-    -- 11: apmask +5 is good while aqmask lacks 4, and EADDRINUSE while it has 4
+    -- 11: bit 5 of apmask, first with bit 4 of aqmask clear, and then with it set
     ∷ answering 255
     (unreserved ++ (new 1 ∷ adapter 1 "5" ∷ domain 1 "4" ∷ apmask "+5" ∷ apmask "-5" ∷ aqmask "+4" ∷ apmask "+5" ∷ []))
     (0 ∷ 0 ∷ 0 ∷ 0 ∷ 0 ∷ 0 ∷ 0 ∷ 0 ∷ 98 ∷ [])
