@@ -14,7 +14,8 @@ use Rattle.mask.specs.declared.Mask.{Mask}
 use Rattle.mask.specs.Bits.{Sized, Bits, bits, someBelow, both, included, noBits}
 use Rattle.number.specs.Text.{numberText}
 use Rattle.rules.specs.declared.Answer.{Answer}
-use Rattle.rules.specs.declared.Answer.the-variants.{Refused}
+use Rattle.rules.specs.declared.Answer.the-variants.{Done, Refused}
+use Rattle.errno.specs.declared.Errno.{Errno}
 use Rattle.rules.specs.declared.Id.{Id}
 use Rattle.rules.specs.declared.Kind.{Kind}
 use Rattle.rules.specs.declared.Kind.the-variants.{Adapter, Domain, Control}
@@ -27,7 +28,7 @@ use Rattle.record.proofs.Laws.{cond-below, device-there, numbers-there, words-o
 use Rattle.lookup.proofs.Found.{known}
 use Rattle.rules.specs.Refusals.{RefusedExactly}
 use Rattle.rules.proofs.Refusals.{absorbed, refused-exactly}
-use Rattle.assign.specs.Numbers.{value, changed, assigned}
+use Rattle.assign.specs.Numbers.{value, changed, assigned, answerOf}
 
 -- a number alone, as a mask with one bit set
 pub one-bit : (n : ℕ) → included n noBits ≡ single n
@@ -100,17 +101,43 @@ module _ (k : Kind) (n p : ℕ) (ws qs : List ℕ) where
   unfolding assignAt stateIn
   assigned-already e = ap (λ (b : Bool). cond b (granted (stateIn ws qs)) (adding (paired k n (deviceIn ws p)) p (stateIn ws qs) numbered)) e
 
-  -- a new number, by what the two tests of its queues find
-  pub new-number : (us ds : Bits) → inProduct us ds ≡ paired k n (deviceIn ws p) → numbersOf k (deviceIn ws p) n ≡ false
-      → {x y : Bool} → someBelow queues (both (inProduct us ds) (reserved (hostIn ws))) ≡ x
-      → someBelow queues (both (inProduct us ds) (assignedElsewhere p (deviceIn ws))) ≡ y
-      → assignAt k n p (stateIn ws qs) ≡ cond x (refused Eaddrnotavail) (cond y (refused Eaddrinuse) (granted numbered))
-  unfolding assignAt adding stateIn
-  new-number us ds pairs none hx hy =
+  -- a new number, by the outcome for the queues that it pairs with
+  pub new-number : (m : Bits) → m ≡ paired k n (deviceIn ws p) → numbersOf k (deviceIn ws p) n ≡ false
+      → {o : Outcome State} → adding m p (stateIn ws qs) numbered ≡ o → assignAt k n p (stateIn ws qs) ≡ o
+  unfolding assignAt stateIn
+  new-number m pairs none h =
       ap (λ (b : Bool). cond b (granted (stateIn ws qs)) (adding (paired k n (deviceIn ws p)) p (stateIn ws qs) numbered)) none
-      ∙ ap₂ (λ (x y : Bool). cond x (refused Eaddrnotavail) (cond y (refused Eaddrinuse) (granted numbered)))
-      (ap (λ (m : Bits). someBelow queues (both m (reserved (hostIn ws)))) (sym pairs) ∙ hx)
-      (ap (λ (m : Bits). someBelow queues (both m (assignedElsewhere p (deviceIn ws)))) (sym pairs) ∙ hy)
+      ∙ ap (λ (b : Bits). adding b p (stateIn ws qs) numbered) (sym pairs) ∙ h
+
+-- what a test of the queues to be added finds
+pub by-tests : (m : Bits) (p : ℕ) (ws qs : List ℕ) (t : State) (x y : Bool) → x ≡ someBelow queues (both m (reserved (hostIn ws)))
+    → y ≡ someBelow queues (both m (assignedElsewhere p (deviceIn ws)))
+    → cond x (Refused Eaddrnotavail) (cond y (Refused Eaddrinuse) Done) ≡ answerOf (adding m p (stateIn ws qs) t)
+unfolding adding stateIn
+by-tests m p ws qs t x y e f =
+    ap₂ (λ (a b : Bool). cond a (Refused Eaddrnotavail) (cond b (Refused Eaddrinuse) Done)) e f
+    ∙ go (someBelow queues (both m (reserved (hostIn ws)))) (someBelow queues (both m (assignedElsewhere p (deviceIn ws))))
+  where
+    go : (a b : Bool) → cond a (Refused Eaddrnotavail) (cond b (Refused Eaddrinuse) Done)
+        ≡ answerOf (cond a (refused Eaddrnotavail) (cond b (refused Eaddrinuse) (granted t)))
+    go true b = refl
+    go false true = refl
+    go false false = refl
+
+-- an answer that is told tells the outcome
+pub refused-as : (o : Outcome State) (e : Errno) → Refused e ≡ answerOf o → o ≡ refused e
+refused-as (granted s) e h = let z : _≡_ {A = ℕ} 0 1 = cc in absurd (omega arith)
+refused-as (refused f) e h = cc
+
+pub done-as : (m : Bits) (p : ℕ) (s t : State) → Done ≡ answerOf (adding m p s t) → adding m p s t ≡ granted t
+unfolding adding
+done-as m p s t h = go (someBelow queues (both m (reserved (s .host)))) (someBelow queues (both m (assignedElsewhere p (s .device)))) h
+  where
+    go : (a b : Bool) → Done ≡ answerOf (cond a (refused Eaddrnotavail) (cond b (refused Eaddrinuse) (granted t)))
+        → cond a (refused Eaddrnotavail) (cond b (refused Eaddrinuse) (granted t)) ≡ granted t
+    go true b h = let z : _≡_ {A = ℕ} 0 1 = cc in absurd (omega arith)
+    go false true h = let z : _≡_ {A = ℕ} 0 1 = cc in absurd (omega arith)
+    go false false h = refl
 
 -- ---- the text of a number
 

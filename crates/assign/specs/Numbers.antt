@@ -2,6 +2,7 @@
 -- Assumes nothing.
 use Prim.Native.Nat.{ℕ}
 use mathlib.Core.List.{List}
+use mathlib.Core.Path.{_≡_}
 use denote.Ref.{now}
 use Rattle.errno.specs.Outcome.{Outcome, granted, refused}
 use Rattle.mask.specs.Bits.{Bits, included, excluded}
@@ -9,9 +10,11 @@ use Rattle.number.specs.Text.{numberText}
 use Rattle.rules.specs.declared.Id.{Id}
 use Rattle.rules.specs.declared.Kind.{Kind}
 use Rattle.rules.specs.declared.Answer.{Answer}
-use Rattle.rules.specs.Commands.{slotOf, numbersOf, assign, unassign}
+use Rattle.rules.specs.declared.Answer.the-variants.{Done, Refused}
+use Rattle.rules.specs.State.{State}
+use Rattle.rules.specs.Commands.{slotOf, numbersOf, adding, assign, unassign}
 use Rattle.rules.specs.Refusals.{RefusedExactly}
-use Rattle.record.specs.Layout.{limitsIn, hostIn, deviceIn, putNumbers, wordsOf}
+use Rattle.record.specs.Layout.{stateIn, limitsIn, hostIn, deviceIn, putNumbers, wordsOf}
 use Rattle.record.specs.Lent.{Lent}
 use Rattle.record.specs.Carried.{CarriedWords, Obeys}
 
@@ -44,6 +47,15 @@ assigned k i text = assignedNumber k i (value (numberText text))
 
 abbrev pub unassigned : Kind → Id → List ℕ → List ℕ → List ℕ
 unassigned k i text = unassignedNumber k i (value (numberText text))
+
+-- the answer that an outcome comes to
+abbrev pub answerOf : Outcome State → Answer
+answerOf (granted s) = Done
+answerOf (refused e) = Refused e
+
+-- whether some queues can be added to the device at slot p: EADDRNOTAVAIL, then EADDRINUSE, whatever the drivers and the next state are
+abbrev pub Admits : Bits → ℕ → Lent → Answer → Type 0
+Admits new p words r = (qs : List ℕ) (t : State) → r ≡ answerOf (adding new p (stateIn (now words) qs) t)
 
 -- assigning the number of a text, on the words ws, which are left as vs
 pub record Assigning (k : Kind) (i : Id) (text ws vs : List ℕ) (r : Answer) : Type 0 where

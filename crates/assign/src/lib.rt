@@ -20,7 +20,7 @@ ghost use Rattle.rules.specs.Commands.{assignNumber, unassignNumber, assignAt, 
 ghost use Rattle.record.specs.Lent.{limits, host, devices};
 ghost use Rattle.record.specs.Carried.{Obeys};
 ghost use Rattle.product.specs.Meet.{queuesOf};
-ghost use Rattle.assign.specs.Numbers.{Assigns, Unassigns, assignedNumber, unassignedNumber, assignedAt};
+ghost use Rattle.assign.specs.Numbers.{Assigns, Unassigns, assignedNumber, unassignedNumber, assignedAt, Admits};
 
 // Assigns the number that a text says.
 pub fn assign(words: &mut Words, kind: Kind, id: Id, text: &[u8]) -> Answer
@@ -100,13 +100,25 @@ fn assign_at(words: &mut Words, kind: Kind, slot: usize, number: u8) -> Answer
         return Answer::Done;
     }
     let wanted = paired(words, kind, slot, number);
+    match admitted(words, slot, wanted) {
+        Answer::Refused(e) => Answer::Refused(e),
+        Answer::Done => {
+            record::put_numbers(words, slot, kind, m.with(number));
+            Answer::Done
+        }
+    }
+}
+
+// Whether queues that are wanted can be added to the device at a slot.
+fn admitted(words: &Words, slot: usize, wanted: Product) -> Answer
+    ensures { λ r. ⌜ Admits (queuesOf wanted) slot (words .entry) r ⌝ }
+{
     if reserved(words, wanted) {
         return Answer::Refused(Errno::Eaddrnotavail);
     }
     if lookup::taken(words, slot, wanted) {
         return Answer::Refused(Errno::Eaddrinuse);
     }
-    record::put_numbers(words, slot, kind, m.with(number));
     Answer::Done
 }
 

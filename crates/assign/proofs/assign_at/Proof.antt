@@ -1,21 +1,18 @@
 -- `assign_at` meets its contract: a return for each case of the rule.
 -- Assumes nothing.
 use Prim.Native.Nat.{ℕ}
-use mathlib.Core.Bool.{true}
-use mathlib.Core.Path.{_≡_, refl, sym, ap, _∙_}
+use mathlib.Core.Path.{_≡_, sym, ap, _∙_}
 use mathlib.Core.List.{List}
 use borrow.Author.Needs.{needs}
-use Rattle.errno.specs.declared.Errno.the-variants.{Eaddrinuse, Eaddrnotavail}
-use Rattle.mask.specs.Bits.{Bits, bits, included, someBelow, both}
+use Rattle.mask.specs.Bits.{Bits, included}
 use Rattle.mask.proofs.Laws.{mask-words}
+use Rattle.rules.specs.declared.Answer.{Answer}
 use Rattle.rules.specs.Commands.{assignAt, numbersOf, withDevice, withNumbers}
-use Rattle.rules.specs.State.{queues}
-use Rattle.rules.specs.Queues.{reserved}
-use Rattle.record.specs.Layout.{deviceIn, hostIn, stateIn}
-use Rattle.product.specs.Meet.{queuesOf}
+use Rattle.record.specs.Layout.{deviceIn, stateIn}
 use Rattle.record.proofs.Laws.{refused-carried, done-carried}
+use Rattle.product.specs.Meet.{queuesOf}
 use Rattle.assign.specs.Numbers.{assignedAt}
-use Rattle.assign.proofs.Laws.{same-words, assigned-already, new-number, put-changed, read-changed}
+use Rattle.assign.proofs.Laws.{same-words, assigned-already, new-number, refused-as, done-as, put-changed, read-changed}
 use Rattle.assign.proofs.assign_at.Statement.{statement}
 use Rattle.assign.proofs.assign_at.Tie as tie
 
@@ -29,42 +26,33 @@ returns c =
 
 returns-2 : tie.Need-returns-2
 returns-2 c =
-    let a = c .before .before .before .before .before .before .before .before .before .before .before .args in
+    let a = c .before .before .before .before .before .before .before .before .before .before .before .before .before .args in
     let ws = a .words .now in
-    let none = sym (c .before .before .before .before .before .before .has .ensures ∙ ap (λ (m : Bits). m (a .number)) (c .before .before .before .before .before .before .before .numbers .ensures)) ∙ c .before .before .before .before .before .if1 .left in
-    let new = c .before .before .before .paired in
-    -- by congruence, so that it fails as a fact where the tests are made in another order
-    let hit : someBelow queues (both (queuesOf (new .result)) (reserved (hostIn ws))) ≡ true = cc in
-    refused-carried (assignAt (a .kind) (a .number) (a .slot)) (assignedAt (a .kind) (a .slot) (a .number)) ws Eaddrnotavail
-    (λ qs. new-number (a .kind) (a .number) (a .slot) ws qs (bits (new .result .adapters)) (bits (new .result .domains)) (new .ensures) none
-    hit refl)
+    let none = sym (c .before .before .before .before .before .before .before .before .has .ensures ∙ ap (λ (m : Bits). m (a .number)) (c .before .before .before .before .before .before .before .before .before .numbers .ensures)) ∙ c .before .before .before .before .before .before .before .if1 .left in
+    let new = c .before .before .before .before .before .paired in
+    let told = c .before .before .before .admitted in
+    let e = c .before .e .given in
+    refused-carried (assignAt (a .kind) (a .number) (a .slot)) (assignedAt (a .kind) (a .slot) (a .number)) ws (e .0 .0)
+    (λ qs. new-number (a .kind) (a .number) (a .slot) ws qs (queuesOf (new .result)) (new .ensures) none
+    (refused-as _ (e .0 .0) (sym (e .1) ∙ told .ensures qs _)))
 
 returns-3 : tie.Need-returns-3
 returns-3 c =
-    let a = c .before .before .before .before .before .before .before .before .before .before .before .before .before .before .args in
+    let a = c .before .before .before .before .before .before .before .before .before .before .before .before .before .before .before .args in
     let ws = a .words .now in
-    let none = sym (c .before .before .before .before .before .before .before .before .before .has .ensures ∙ ap (λ (m : Bits). m (a .number)) (c .before .before .before .before .before .before .before .before .before .before .numbers .ensures)) ∙ c .before .before .before .before .before .before .before .before .if1 .left in
-    let new = c .before .before .before .before .before .before .paired in
-    refused-carried (assignAt (a .kind) (a .number) (a .slot)) (assignedAt (a .kind) (a .slot) (a .number)) ws Eaddrinuse
-    (λ qs. new-number (a .kind) (a .number) (a .slot) ws qs (bits (new .result .adapters)) (bits (new .result .domains)) (new .ensures) none
-    (sym (c .before .before .before .before .reserved .ensures) ∙ c .before .before .before .if2 .left) (sym (c .before .taken .ensures) ∙ c .if3 .taken))
-
-returns-4 : tie.Need-returns-4
-returns-4 c =
-    let a = c .before .before .before .before .before .before .before .before .before .before .before .before .before .before .before .before .before .args in
-    let ws = a .words .now in
-    let none = sym (c .before .before .before .before .before .before .before .before .before .before .before .before .has .ensures ∙ ap (λ (m : Bits). m (a .number)) (c .before .before .before .before .before .before .before .before .before .before .before .before .before .numbers .ensures)) ∙ c .before .before .before .before .before .before .before .before .before .before .before .if1 .left in
-    let new = c .before .before .before .before .before .before .before .before .before .paired in
+    let none = sym (c .before .before .before .before .before .before .before .before .before .before .has .ensures ∙ ap (λ (m : Bits). m (a .number)) (c .before .before .before .before .before .before .before .before .before .before .before .numbers .ensures)) ∙ c .before .before .before .before .before .before .before .before .before .if1 .left in
+    let new = c .before .before .before .before .before .before .before .paired in
+    let told = c .before .before .before .before .before .admitted in
     let m = c .before .with .result in
     let words = mask-words m (c .before .with .ok) in
-    let made = c .before .with .ensures ∙ ap (included (a .number)) (c .before .before .before .before .before .before .before .before .before .before .before .before .before .numbers .ensures) in
-    let held = c .before .before .before .before .before .before .before .before .before .before .before .before .before .before .before .hold-words .ensures in
-    let there = c .before .before .before .before .before .before .before .before .before .before .before .before .before .before .before .before .before .pre in
+    let made = c .before .with .ensures ∙ ap (included (a .number)) (c .before .before .before .before .before .before .before .before .before .before .before .numbers .ensures) in
+    let held = c .before .before .before .before .before .before .before .before .before .before .before .before .before .hold-words .ensures in
+    let there = c .before .before .before .before .before .before .before .before .before .before .before .before .before .before .before .pre in
     done-carried (assignAt (a .kind) (a .number) (a .slot)) (assignedAt (a .kind) (a .slot) (a .number)) ws
     (λ qs. withDevice (a .slot) (withNumbers (a .kind) (included (a .number) (numbersOf (a .kind) (deviceIn ws (a .slot)))) (deviceIn ws (a .slot))) (stateIn ws qs))
     (c .put-numbers .ensures ∙ put-changed ws (a .kind) (a .slot) held there (included (a .number)) m words made)
-    (λ qs. new-number (a .kind) (a .number) (a .slot) ws qs (bits (new .result .adapters)) (bits (new .result .domains)) (new .ensures) none
-    (sym (c .before .before .before .before .before .before .before .reserved .ensures) ∙ c .before .before .before .before .before .before .if2 .left) (sym (c .before .before .before .before .taken .ensures) ∙ c .before .before .before .if3 .left))
+    (λ qs. new-number (a .kind) (a .number) (a .slot) ws qs (queuesOf (new .result)) (new .ensures) none
+    (done-as (queuesOf (new .result)) (a .slot) (stateIn ws qs) _ (sym (c .before .before .before .enum-told .given .1) ∙ told .ensures qs _)))
     (read-changed ws (a .kind) (a .slot) held there (included (a .number)) m words made)
 
 pub assign-at-spec : {M : Type 1} → statement M
@@ -77,9 +65,9 @@ assign-at-spec =
     returns
     (λ c κs. search needs)
     (λ c κs. search needs)
+    (λ c. search needs)
+    (λ c. search needs)
+    (λ c κs. search needs)
+    (λ c κs. search needs)
     returns-2
-    (λ c κs. search needs)
-    returns-3
-    (λ c κs. search needs)
-    (λ c κs. search needs)
-    returns-4)
+    returns-3)
