@@ -46,7 +46,7 @@ configure 10 +5,+6 +4 +71|masks 1 guest
 a sweep
 configure 10 +5,+6 +4,+171 +71|masks 1 guest|move 5 171|masks 1 guest|usable 1 6 4
 sweep 131072|masks 1 guest|usable 1 6 4|masks 2 guest
-the listing of 01
+the listing of a guest
 lines 1 guest|list 1 guest 0 32|list 1 guest 0 20|list 1 guest 1452 20|list 1 guest 1452 16|list 1 guest 0 7|list 2 guest 0 7
 list 1 guest 65536 32|list 1 guest 65535 32|list 1 guest 18446744073709551615 32
 """

@@ -1,5 +1,5 @@
-"""01 once more, as a plain Python program: sets of numbers and loops over queues, written from the paper and not from the
-library. tests/cases.py uses it to work out what crates/cases must print."""
+"""The rules once more (docs/RULES.md), as a plain Python program: sets of numbers and loops over queues, written from the
+requirements and not from the library. tests/cases.py uses it to work out what crates/cases must print."""
 from textcases import EMPTY, mask, number
 
 NAMES = {2: "ENOENT", 16: "EBUSY", 17: "EEXIST", 19: "ENODEV", 22: "EINVAL", 28: "ENOSPC", 98: "EADDRINUSE", 99: "EADDRNOTAVAIL"}

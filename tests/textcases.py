@@ -1,5 +1,5 @@
 #!/usr/bin/env python3
-"""What crates/textcases must print, from 01's "Text" by another hand: splitting, regular expressions and Python's own
+"""What crates/textcases must print, from the rules of text (docs/RULES.md) by another hand: splitting, regular expressions and Python's own
 int(). It shares no code with the readers. `make expected` compares it with crates/textcases/stdout."""
 import re
 

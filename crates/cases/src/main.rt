@@ -1,5 +1,5 @@
 // Calls every function of the service, and prints what each answers. The expected output is made by tests/cases.py,
-// with a model in Python that is written from 01.
+// with a model in Python that is written from the rules (docs/RULES.md) and shares no code with the library.
 use guest::Shown;
 use listing::Listed;
 use mask::Apid;
@@ -22,9 +22,14 @@ use rules::Moved;
 fn main() {
     let mut words = [0u64; WORDS];
     let mut drivers = [0u8; QUEUES];
+    command_rows(&mut words, &mut drivers);
+    queue_rows(&mut words, &mut drivers);
+}
+
+fn command_rows(words: &mut Words, drivers: &mut Drivers) {
     each(
-        &mut words,
-        &mut drivers,
+        words,
+        drivers,
         b"hf fresh 256 255;hf fresh 255 256;hf fresh 63 15;\
         hg configure 10 +63 +15 +15;hg configure 10 +64 +15 +15;hg configure 10 +63 +16 +15;\
         hg configure 10 +63 +15 +16;\
@@ -56,8 +61,15 @@ fn main() {
         hf fresh 255 255;hp apmask 0x04;hq aqmask 0x02;dc create 1;dc create 2;aa assign 1 adapter 5;\
         aa assign 1 domain 4;\
         aa assign 2 domain 4;aa assign 2 domain 6;aa assign 2 adapter 5;au unassign 2 domain 6;\
-        aa assign 2 adapter 5;\
-        ## setting 13;\
+        aa assign 2 adapter 5;",
+    );
+}
+
+fn queue_rows(words: &mut Words, drivers: &mut Drivers) {
+    each(
+        words,
+        drivers,
+        b"## setting 13;\
         hf fresh 255 255;hg configure 10 +5 +4 0x0;qt target 5 4;qm move 5 4;hp apmask -5;qt target 5 4;\
         qn remaining;qs sweep 0;qm move 5 4;qn remaining;qm move 5 4;qn remaining;qm move 5 4;qm move 7 4;\
         hg configure 9 +5 +4 0x0;qt target 5 4;qm move 5 4;qt target 4 5;\
@@ -76,7 +88,7 @@ fn main() {
         ## a sweep;\
         hg configure 10 +5,+6 +4,+171 +71;mk masks 1 guest;qm move 5 171;mk masks 1 guest;my usable 1 6 4;\
         qs sweep 131072;mk masks 1 guest;my usable 1 6 4;mk masks 2 guest;\
-        ## the listing of 01;\
+        ## the listing of a guest;\
         mj lines 1 guest;ml list 1 guest 0 32;ml list 1 guest 0 20;ml list 1 guest 1452 20;\
         ml list 1 guest 1452 16;ml list 1 guest 0 7;ml list 2 guest 0 7;\
         ml list 1 guest 65536 32;ml list 1 guest 65535 32;ml list 1 guest 18446744073709551615 32;",

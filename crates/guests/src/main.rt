@@ -1,4 +1,4 @@
-// The three guests of the kernel's paper, from a bare record to running; then the accident: a rehearsal guest asks for
+// The three guests of the kernel's document on vfio-ap, from a bare record to running; then the accident: a rehearsal guest asks for
 // the live queue, and is refused by name.
 use mask::Mask;
 use record::Drivers;

@@ -1,18 +1,17 @@
 // What the programs print with. All of it goes to standard output, and no contract can say what arrives there: those
 // here say how much was handed over, or what it was made from.
 //
-// Rests on errno, mask, maskbytes and rules, and on the kit's io.
+// Rests on errno, mask and rules, and on the kit's io.
 use errno::Errno;
 use mask::Mask;
 use rules::Answer;
 ghost use mathlib.Core.Path.{_≡_};
-ghost use Prim.Native.Nat.{_<_, min};
+ghost use Prim.Native.Nat.{min};
 ghost use lib.ListN.{length};
 ghost use Rattle.io.specs.Digits.{Fewest};
 ghost use Rattle.errno.specs.Errno.{numberOf};
-ghost use Rattle.mask.specs.Bits.{bits, countBelow, numbers};
+ghost use Rattle.mask.specs.Bits.{bits, countBelow};
 ghost use Rattle.rules.specs.Commands.{answered};
-ghost use Rattle.print.specs.Hex.{hexDigit, hexOf};
 
 const OUT: i32 = 1;
 
@@ -123,25 +122,17 @@ fn bit(m: Mask, i: u8) {
     }
 }
 
-// The 64 hex digits of a mask.
-pub fn mask_digits(m: Mask) -> [u8; 64]
-    ensures { λ r. ⌜ r ≡ hexOf (numbers 8 32 (bits m) 0) ⌝ }
+// A mask as its 64 hex digits. Answers how many were written.
+pub fn mask_hex(m: Mask) -> usize
+    ensures { λ r. ⌜ r ≡ 64 ⌝ }
 {
-    let b = maskbytes::to_bytes(m);
-    let mut out = [0u8; 64];
-    let mut i = 0usize;
-    while i < 32 {
-        let c = b[i];
-        out[2 * i] = hex_digit(c / 16);
-        out[2 * i + 1] = hex_digit(c % 16);
-        i += 1;
-    }
-    out
+    let w = m.words;
+    word_hex(w[0]) + word_hex(w[1]) + word_hex(w[2]) + word_hex(w[3])
 }
 
-fn hex_digit(n: u8) -> u8
-    requires { ⌜ n < 16 ⌝ }
-    ensures { λ r. ⌜ r ≡ hexDigit n ⌝ }
+fn word_hex(word: u64) -> usize
+    ensures { λ r. ⌜ r ≡ 16 ⌝ }
 {
-    if n < 10 { b'0' + n } else { b'a' - 10 + n }
+    io::print_hex(OUT, word, 16);
+    16
 }

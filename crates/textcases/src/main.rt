@@ -1,5 +1,5 @@
 // Reads texts of numbers and masks, and prints what each comes to. The expected output is made by tests/textcases.py,
-// which is written from 01's rules and shares no code with the readers.
+// which is written from the rules (docs/RULES.md, "Text") and shares no code with the readers.
 use errno::Errno;
 use mask::Mask;
 use masktext::MaskRead;
@@ -89,9 +89,8 @@ fn mask_outcome(r: MaskRead) {
 }
 
 fn hex(m: Mask) {
-    let digits = print::mask_digits(m);
     print::text(b"0x");
-    print::text(&digits);
+    print::mask_hex(m);
     print::text(b"\n");
 }
 
