@@ -1,4 +1,4 @@
--- Laws of cases by their values, and of masks that are put one after the other.
+-- Laws of cases by their values, of what a refused call leaves, and of masks that are put one after the other.
 -- Assumes nothing.
 use Prim.Native.Nat.{ℕ, _+_}
 use native.Mathlib.Omega.{arith}
@@ -8,6 +8,7 @@ use mathlib.Core.Path.{_≡_, refl, sym, ap, _∙_}
 use lib.ListN.{length, drop, length-append}
 use lib.Dec.{eqb}
 use lib.Seq.{paste, take-at, take-all, drop-drop, drop-length, drop-append-add}
+use borrow.Author.Tests.{eq-eqb, ne-eqb}
 use Rattle.errno.specs.declared.Errno.{Errno}
 use Rattle.errno.specs.declared.Errno.the-variants.{Enoent, Ebusy, Eexist, Enodev, Einval, Enospc, Eaddrinuse, Eaddrnotavail}
 use Rattle.errno.specs.Errno.{numberOf}
@@ -38,7 +39,8 @@ pub one-case : {n : ℕ} (e f : Errno) → n ≡ numberOf e → n ≡ numberOf f
 one-case e f p q = sym (own-case e) ∙ ap caseWith (sym p ∙ q) ∙ own-case f
 
 -- no case has a number that is none of the eight
-pub nameless : (n : ℕ) → (n ≡ 2 → ⊥) → (n ≡ 16 → ⊥) → (n ≡ 17 → ⊥) → (n ≡ 19 → ⊥) → (n ≡ 22 → ⊥) → (n ≡ 28 → ⊥) → (n ≡ 98 → ⊥) → (n ≡ 99 → ⊥) → Nameless n
+pub nameless : (n : ℕ) → (n ≡ 2 → ⊥) → (n ≡ 16 → ⊥) → (n ≡ 17 → ⊥) → (n ≡ 19 → ⊥) → (n ≡ 22 → ⊥) → (n ≡ 28 → ⊥) → (n ≡ 98 → ⊥)
+    → (n ≡ 99 → ⊥) → Nameless n
 unfolding numberOf
 nameless n a b c d e f g h Enoent = a
 nameless n a b c d e f g h Ebusy = b
@@ -48,6 +50,10 @@ nameless n a b c d e f g h Einval = e
 nameless n a b c d e f g h Enospc = f
 nameless n a b c d e f g h Eaddrinuse = g
 nameless n a b c d e f g h Eaddrnotavail = h
+
+-- what `leave` leaves, by the errno value
+pub left-by : {e n old new : ℕ} → new ≡ cond (eqb e 0) n old → (e ≡ 0 → new ≡ n) × ((e ≡ 0 → ⊥) → new ≡ old)
+left-by {e} h = (λ z. rw (eq-eqb e 0 z) at h, λ z. rw (ne-eqb e 0 z) at h)
 
 -- the bytes of a mask are 32
 pub mask-long : (m : Bits) → length (maskBytes m) ≡ 32
