@@ -21,7 +21,12 @@ caseWith : ℕ → Errno
 caseWith n =
     cond (eqb n 2) Enoent
     (cond (eqb n 16) Ebusy
-    (cond (eqb n 17) Eexist (cond (eqb n 19) Enodev (cond (eqb n 22) Einval (cond (eqb n 28) Enospc (cond (eqb n 98) Eaddrinuse Eaddrnotavail))))))
+    (cond (eqb n 17) Eexist
+    (cond (eqb n 19) Enodev
+    (cond (eqb n 22) Einval
+    (cond (eqb n 28) Enospc
+    (cond (eqb n 98) Eaddrinuse
+    Eaddrnotavail))))))
 
 own-case : (e : Errno) → caseWith (numberOf e) ≡ e
 unfolding caseWith numberOf
@@ -69,9 +74,11 @@ pub three-pasted : (d a b c : List ℕ) (n : ℕ) → length a ≡ n → length 
     → paste (paste (paste d 0 a n) n b n) (n + n) c n ≡ a ++ (b ++ c)
 three-pasted d a b c n la lb lc ld =
     let first : paste d 0 a n ≡ a ++ drop n d = pasted [] d a 0 n refl la in
-    let second : paste (paste d 0 a n) n b n ≡ (a ++ b) ++ drop n (drop n d) = ap (λ (l : List ℕ). paste l n b n) first ∙ pasted a (drop n d) b n n la lb in
+    let second : paste (paste d 0 a n) n b n ≡ (a ++ b) ++ drop n (drop n d) =
+    ap (λ (l : List ℕ). paste l n b n) first ∙ pasted a (drop n d) b n n la lb in
     let all : n + (n + n) ≡ length d = omega arith in
-    let none : drop n (drop n (drop n d)) ≡ [] = drop-drop n n (drop n d) ∙ drop-drop (n + n) n d ∙ ap (λ (k : ℕ). drop k d) all ∙ drop-length d in
+    let none : drop n (drop n (drop n d)) ≡ [] =
+    drop-drop n n (drop n d) ∙ drop-drop (n + n) n d ∙ ap (λ (k : ℕ). drop k d) all ∙ drop-length d in
     ap (λ (l : List ℕ). paste l (n + n) c n) second
     ∙ pasted (a ++ b) (drop n (drop n d)) c (n + n) n (omega (arith, length-append a b)) lc
     ∙ ap (λ (l : List ℕ). ((a ++ b) ++ c) ++ l) none
