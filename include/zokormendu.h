@@ -16,7 +16,7 @@
  *
  * ANSWERS. Unless said otherwise a call answers 0, or the errno value of its refusal. The checks are made in the order in
  * which the values stand at each function, and a text is read before anything else is checked. A refused call leaves every
- * byte of the record and of every buffer as it was.
+ * byte that it was lent as it was.
  *
  * TEXT is bytes with a length and no terminator.
  *  - A number: decimal, hex after 0x, octal after a leading 0; 1 to 16 bytes, of at most 65535.
@@ -33,7 +33,7 @@
  *     14 to 17      configured usage domains
  *     18 to 21      configured control domains
  *     22 to 277     a hardware type for each adapter; only 10 or higher can be passed through
- *     278 to 405    ZK_PLACES places for a device, 16 words each:
+ *     278 to 405    ZK_SLOTS slots for a device, 16 words each:
  *                   0 present (0 is none, anything else is present), 1 open (likewise), 2 and 3 the id,
  *                   4 to 7 assigned adapters, 8 to 11 assigned domains, 12 to 15 assigned control domains
  * Of two devices with the same id the first is meant.
@@ -53,7 +53,7 @@ extern "C" {
 /* Sizes. */
 #define ZK_WORDS 406         /* uint64_t words of a record */
 #define ZK_QUEUES 65536      /* driver bytes of a record; also the place after the last queue */
-#define ZK_PLACES 8          /* devices at most */
+#define ZK_SLOTS 8           /* devices at most */
 #define ZK_ID_BYTES 16       /* an id */
 #define ZK_MASK_BYTES 32     /* a mask as bytes: byte 0 holds bits 0 to 7, bit 0 its most significant bit */
 #define ZK_MASKS_BYTES 96    /* three masks: adapters, usage domains, control domains */
@@ -71,8 +71,8 @@ extern "C" {
 #define ZK_AT_DOMAINS 14
 #define ZK_AT_CONTROLS 18
 #define ZK_AT_TYPES 22
-#define ZK_AT_PLACES 278
-#define ZK_PLACE_WORDS 16
+#define ZK_AT_SLOTS 278
+#define ZK_SLOT_WORDS 16
 
 /* The refusals. */
 #define ZK_ENOENT 2         /* no device has this id */
@@ -80,7 +80,7 @@ extern "C" {
 #define ZK_EEXIST 17        /* create of a present id */
 #define ZK_ENODEV 19        /* a number or bit above its limit */
 #define ZK_EINVAL 22        /* bad text; a limit above 255; close of a device that is not open */
-#define ZK_ENOSPC 28        /* every place is taken; a listing buffer under ZK_LINE_BYTES */
+#define ZK_ENOSPC 28        /* every slot is taken; a listing buffer under ZK_LINE_BYTES */
 #define ZK_EADDRINUSE 98    /* a queue is assigned elsewhere, or a new mask takes an assigned one */
 #define ZK_EADDRNOTAVAIL 99 /* a queue is reserved */
 
@@ -122,10 +122,10 @@ static inline uint64_t zk_id_lo(const uint8_t *id)
 /* Makes a fresh record: both host masks all ones, nothing configured, every queue unbound, no device; 0 or EINVAL. */
 uint8_t zk_fresh(uint64_t *words, uint8_t *drivers, uint64_t highest_adapter, uint64_t highest_domain);
 
-/* Creates a device in the lowest free place, with nothing assigned and not open; 0, EEXIST or ENOSPC. */
+/* Creates a device in the lowest free slot, with nothing assigned and not open; 0, EEXIST or ENOSPC. */
 uint8_t zk_create(uint64_t *words, uint64_t hi, uint64_t lo);
 
-/* Removes a device, and fills its place with zeros; 0, ENOENT or EBUSY. */
+/* Removes a device, and fills its slot with zeros; 0, ENOENT or EBUSY. */
 uint8_t zk_remove(uint64_t *words, uint64_t hi, uint64_t lo);
 
 /* Marks a device as open, as its guest starts; 0, ENOENT or EBUSY. */
@@ -167,12 +167,12 @@ uint8_t zk_masks(const uint64_t *words, const uint8_t *drivers, uint64_t hi, uin
 /*
  * Lists a matrix by ascending queue from a place (APID * 256 + APQI) on, whole lines only, as many as fit; 0, ENOENT or
  * ENOSPC. *written is the number of bytes; the bytes after them stay as they were. *next is the place to go on from, and
- * ZK_QUEUES where nothing is left. On a refusal these two are 0 and the given place.
+ * ZK_QUEUES where nothing is left.
  */
 uint8_t zk_list(const uint64_t *words, const uint8_t *drivers, uint64_t hi, uint64_t lo, uint8_t matrix, size_t place,
                 uint8_t *buffer, size_t length, size_t *written, size_t *next);
 
-/* Writes the name of an errno value, ZK_NAME_BYTES; answers its length. Any other value has zeros for a name, and 0. */
+/* Writes the name of an errno value, ZK_NAME_BYTES, and answers its length; for any other value nothing, and 0. */
 size_t zk_errno_name(uint8_t value, uint8_t *name);
 
 #ifdef __cplusplus

@@ -1,4 +1,4 @@
--- Laws of cases by their values, and of masks that are put one after the other.
+-- Laws of cases by their values, of what a refused call leaves, and of masks that are put one after the other.
 -- Assumes nothing.
 use Prim.Native.Nat.{ℕ, _+_}
 use native.Mathlib.Omega.{arith}
@@ -8,6 +8,7 @@ use mathlib.Core.Path.{_≡_, refl, sym, ap, _∙_}
 use lib.ListN.{length, drop, length-append}
 use lib.Dec.{eqb}
 use lib.Seq.{paste, take-at, take-all, drop-drop, drop-length, drop-append-add}
+use borrow.Author.Tests.{eq-eqb, ne-eqb}
 use Rattle.errno.specs.declared.Errno.{Errno}
 use Rattle.errno.specs.declared.Errno.the-variants.{Enoent, Ebusy, Eexist, Enodev, Einval, Enospc, Eaddrinuse, Eaddrnotavail}
 use Rattle.errno.specs.Errno.{numberOf}
@@ -20,7 +21,12 @@ caseWith : ℕ → Errno
 caseWith n =
     cond (eqb n 2) Enoent
     (cond (eqb n 16) Ebusy
-    (cond (eqb n 17) Eexist (cond (eqb n 19) Enodev (cond (eqb n 22) Einval (cond (eqb n 28) Enospc (cond (eqb n 98) Eaddrinuse Eaddrnotavail))))))
+    (cond (eqb n 17) Eexist
+    (cond (eqb n 19) Enodev
+    (cond (eqb n 22) Einval
+    (cond (eqb n 28) Enospc
+    (cond (eqb n 98) Eaddrinuse
+    Eaddrnotavail))))))
 
 own-case : (e : Errno) → caseWith (numberOf e) ≡ e
 unfolding caseWith numberOf
@@ -38,7 +44,8 @@ pub one-case : {n : ℕ} (e f : Errno) → n ≡ numberOf e → n ≡ numberOf f
 one-case e f p q = sym (own-case e) ∙ ap caseWith (sym p ∙ q) ∙ own-case f
 
 -- no case has a number that is none of the eight
-pub nameless : (n : ℕ) → (n ≡ 2 → ⊥) → (n ≡ 16 → ⊥) → (n ≡ 17 → ⊥) → (n ≡ 19 → ⊥) → (n ≡ 22 → ⊥) → (n ≡ 28 → ⊥) → (n ≡ 98 → ⊥) → (n ≡ 99 → ⊥) → Nameless n
+pub nameless : (n : ℕ) → (n ≡ 2 → ⊥) → (n ≡ 16 → ⊥) → (n ≡ 17 → ⊥) → (n ≡ 19 → ⊥) → (n ≡ 22 → ⊥) → (n ≡ 28 → ⊥) → (n ≡ 98 → ⊥)
+    → (n ≡ 99 → ⊥) → Nameless n
 unfolding numberOf
 nameless n a b c d e f g h Enoent = a
 nameless n a b c d e f g h Ebusy = b
@@ -48,6 +55,10 @@ nameless n a b c d e f g h Einval = e
 nameless n a b c d e f g h Enospc = f
 nameless n a b c d e f g h Eaddrinuse = g
 nameless n a b c d e f g h Eaddrnotavail = h
+
+-- what `leave` leaves, by the errno value
+pub left-by : {e n old new : ℕ} → new ≡ cond (eqb e 0) n old → (e ≡ 0 → new ≡ n) × ((e ≡ 0 → ⊥) → new ≡ old)
+left-by {e} h = (λ z. rw (eq-eqb e 0 z) at h, λ z. rw (ne-eqb e 0 z) at h)
 
 -- the bytes of a mask are 32
 pub mask-long : (m : Bits) → length (maskBytes m) ≡ 32
@@ -63,9 +74,11 @@ pub three-pasted : (d a b c : List ℕ) (n : ℕ) → length a ≡ n → length 
     → paste (paste (paste d 0 a n) n b n) (n + n) c n ≡ a ++ (b ++ c)
 three-pasted d a b c n la lb lc ld =
     let first : paste d 0 a n ≡ a ++ drop n d = pasted [] d a 0 n refl la in
-    let second : paste (paste d 0 a n) n b n ≡ (a ++ b) ++ drop n (drop n d) = ap (λ (l : List ℕ). paste l n b n) first ∙ pasted a (drop n d) b n n la lb in
+    let second : paste (paste d 0 a n) n b n ≡ (a ++ b) ++ drop n (drop n d) =
+    ap (λ (l : List ℕ). paste l n b n) first ∙ pasted a (drop n d) b n n la lb in
     let all : n + (n + n) ≡ length d = omega arith in
-    let none : drop n (drop n (drop n d)) ≡ [] = drop-drop n n (drop n d) ∙ drop-drop (n + n) n d ∙ ap (λ (k : ℕ). drop k d) all ∙ drop-length d in
+    let none : drop n (drop n (drop n d)) ≡ [] =
+    drop-drop n n (drop n d) ∙ drop-drop (n + n) n d ∙ ap (λ (k : ℕ). drop k d) all ∙ drop-length d in
     ap (λ (l : List ℕ). paste l (n + n) c n) second
     ∙ pasted (a ++ b) (drop n (drop n d)) c (n + n) n (omega (arith, length-append a b)) lc
     ∙ ap (λ (l : List ℕ). ((a ++ b) ++ c) ++ l) none

@@ -15,8 +15,6 @@ use Rattle.bind.specs.declared.Swept.{Swept}
 use Rattle.guest.specs.declared.Shown.{Shown}
 use Rattle.listing.specs.declared.Listed.{Listed}
 use Rattle.capi.specs.Numbered.{bit}
-use Rattle.capi.specs.declared.Found.{Found}
-use Rattle.capi.specs.declared.Found.the-variants.{Case, Nothing}
 
 -- a lent number
 abbrev pub LentNumber : Type 0
@@ -57,10 +55,9 @@ pub record ListShown (promise : Listed → Type 0) (written written′ next next
 abbrev pub Nameless : ℕ → Type 0
 Nameless value = (e : Errno) → value ≡ numberOf e → ⊥
 
--- the case that has a value
-unfoldable pub Finds : ℕ → Found → Type 0
-Finds value (Case e) = value ≡ numberOf e
-Finds value Nothing = Nameless value
+-- the case that has the value, where one has it
+abbrev pub CaseOf : ℕ → Errno → Type 0
+CaseOf value r = (e : Errno) → value ≡ numberOf e → r ≡ e
 
 -- a name, then zeros up to 14 bytes
 abbrev pub padded : List ℕ → List ℕ

@@ -30,7 +30,7 @@ ghost use Rattle.bind.specs.Moves.{Moves, Sweeps, Remains};
 ghost use Rattle.guest.specs.Masks.{Shows, usableWith};
 ghost use Rattle.listing.specs.Listed.{Listing};
 ghost use Rattle.capi.specs.Numbered.{Numbered, NumberedMove, idWith, queueWith, bit, matrixOf};
-ghost use Rattle.capi.specs.Shown.{SweepShown, maskBytes, masksBytes, MasksShown, ListShown, Finds, NameShown};
+ghost use Rattle.capi.specs.Shown.{SweepShown, maskBytes, masksBytes, MasksShown, ListShown, CaseOf, NameShown};
 
 // Makes the lent memory a fresh record.
 #[no_mangle]
@@ -229,15 +229,15 @@ pub extern "C" fn zk_list(
 pub extern "C" fn zk_errno_name(value: u8, out: &mut [u8; 14]) -> usize
     ensures { λ r. ⌜ NameShown value (out .entry) (out .exit) r ⌝ }
 {
-    match errno_of(value) {
-        Found::Case(e) => {
-            let name = errno::name(e);
-            let bytes = name.bytes;
-            *out = bytes;
-            name.len
-        }
-        Found::Nothing => 0,
+    let e = errno_of(value);
+    let n = errno::number(e);
+    if n != value {
+        return 0;
     }
+    let name = errno::name(e);
+    let bytes = name.bytes;
+    *out = bytes;
+    name.len
 }
 
 fn flag(b: bool) -> u8
@@ -290,24 +290,19 @@ fn put_mask(mask: Mask, out: &mut [u8], at: usize)
     }
 }
 
-// The case that has an errno value.
-enum Found {
-    Case(Errno),
-    Nothing,
-}
-
-fn errno_of(value: u8) -> Found
-    ensures { λ r. ⌜ Finds value r ⌝ }
+// The case with an errno value; of any other number the first.
+fn errno_of(value: u8) -> Errno
+    ensures { λ r. ⌜ CaseOf value r ⌝ }
 {
     match value {
-        2 => Found::Case(Errno::Enoent),
-        16 => Found::Case(Errno::Ebusy),
-        17 => Found::Case(Errno::Eexist),
-        19 => Found::Case(Errno::Enodev),
-        22 => Found::Case(Errno::Einval),
-        28 => Found::Case(Errno::Enospc),
-        98 => Found::Case(Errno::Eaddrinuse),
-        99 => Found::Case(Errno::Eaddrnotavail),
-        _ => Found::Nothing,
+        2 => Errno::Enoent,
+        16 => Errno::Ebusy,
+        17 => Errno::Eexist,
+        19 => Errno::Enodev,
+        22 => Errno::Einval,
+        28 => Errno::Enospc,
+        98 => Errno::Eaddrinuse,
+        99 => Errno::Eaddrnotavail,
+        _ => Errno::Enoent,
     }
 }

@@ -1,6 +1,6 @@
 -- `put_mask` meets its contract. The invariant: the first i bytes of the mask are pasted.
 -- Assumes nothing.
-use Prim.Native.Nat.{_-_, _≤_}
+use Prim.Native.Nat.{_-_, _≤_, _<_}
 use native.Mathlib.Omega.{arith}
 use native.Mathlib.Numerals.{add-one}
 use mathlib.Core.Path.{_≡_, ap, ap₂, _∙_}
@@ -30,11 +30,9 @@ loop-again c =
     let l = c .before .loop in
     let a = c .before .before .before .before .args in
     let b = c .before .before .to-bytes .result in
-    let bytes : b ≡ maskBytes (bits (a .mask)) = c .before .before .to-bytes .ensures in (
-      search needs,
-      search needs,
-      rw (l .inv .2, add-one) (paste-suc (a .out .now) (a .at) b (l .i) 0 (omega arith) (omega (arith, ap length bytes, mask-long (bits (a .mask))))),
-    )
+    let bytes : b ≡ maskBytes (bits (a .mask)) = c .before .before .to-bytes .ensures in
+    let inside : l .i < length b = omega (arith, ap length bytes, mask-long (bits (a .mask))) in
+    (search needs, search needs, rw (l .inv .2, add-one) (paste-suc (a .out .now) (a .at) b (l .i) 0 (omega arith) inside))
 
 returns : tie.Need-returns Inv-loop μ-loop
 unfolding maskBytes

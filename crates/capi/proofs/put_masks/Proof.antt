@@ -20,9 +20,10 @@ returns c =
     let domains = maskBytes (bits (a .masks .domains)) in
     let controls = maskBytes (bits (a .masks .controls)) in
     let long : length (a .out .now) ≡ 96 = omega arith in
+    let first = c .before .before .before .before .put-mask .ensures in
+    let second = c .before .before .put-mask2 .ensures ∙ ap (λ (l : List ℕ). paste l 32 domains 32) first in
     c .put-mask3 .ensures
-    ∙ ap (λ (l : List ℕ). paste l 64 controls 32)
-    (c .before .before .put-mask2 .ensures ∙ ap (λ (l : List ℕ). paste l 32 domains 32) (c .before .before .before .before .put-mask .ensures))
+    ∙ ap (λ (l : List ℕ). paste l 64 controls 32) second
     ∙ three-pasted (a .out .now) adapters domains controls 32 (mask-long _) (mask-long _) (mask-long _) long
 
 pub put-masks-spec : {M : Type 1} → statement M

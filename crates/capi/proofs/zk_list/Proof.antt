@@ -1,9 +1,7 @@
 -- `zk_list` meets its contract: the two numbers are left, or stay as they were.
 -- Assumes nothing.
-use mathlib.Core.Path.{_≡_, _∙_}
-use lib.Dec.{eqb}
-use borrow.Author.Tests.{eq-eqb, ne-eqb}
 use borrow.Author.Needs.{needs}
+use Rattle.capi.proofs.Laws.{left-by}
 use Rattle.capi.proofs.zk_list.Statement.{statement}
 use Rattle.capi.proofs.zk_list.Tie as tie
 
@@ -16,11 +14,18 @@ returns c =
       listed = l .list .result;
       kept = rw (l .before .before .matrix-of .ensures) at (l .list .ensures);
       answer = n .answer-number .ensures;
-      accepted = λ e. (rw (eq-eqb (n .answer-number .result) 0 e) at (first .leave .ensures), rw (eq-eqb (n .answer-number .result) 0 e) at (c .leave2 .ensures));
-      refused = λ e. (rw (ne-eqb (n .answer-number .result) 0 e) at (first .leave .ensures), rw (ne-eqb (n .answer-number .result) 0 e) at (c .leave2 .ensures));
+      accepted = λ e. (left-by (first .leave .ensures) .0 e, left-by (c .leave2 .ensures) .0 e);
+      refused = λ e. (left-by (first .leave .ensures) .1 e, left-by (c .leave2 .ensures) .1 e);
     }
 
 pub zk-list-spec : {M : Type 1} → statement M
 zk-list-spec =
     tie.close
-    (tie.spec (λ c κs. search needs) (λ c κs. search needs) (λ c κs. search needs) (λ c κs. search needs) (λ c κs. search needs) (λ c. search needs) returns)
+    (tie.spec
+    (λ c κs. search needs)
+    (λ c κs. search needs)
+    (λ c κs. search needs)
+    (λ c κs. search needs)
+    (λ c κs. search needs)
+    (λ c. search needs)
+    returns)
