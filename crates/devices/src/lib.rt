@@ -28,15 +28,15 @@ pub fn create(words: &mut Words, id: Id) -> Answer
 pub fn remove(words: &mut Words, id: Id) -> Answer
     ensures { λ r. ⌜ Obeys (remove id) (removed id) (words .entry) (words .exit) r ⌝ }
 {
-    let slot = lookup::find(words, id);
-    if SLOTS <= slot {
+    let at = lookup::find(words, id);
+    if SLOTS <= at {
         return Answer::Refused(Errno::Enoent);
     }
-    if record::is_open(words, slot) {
+    if record::is_open(words, at) {
         return Answer::Refused(Errno::Ebusy);
     }
     record::hold_words(words);
-    record::put_device(words, slot, false, Id { hi: 0, lo: 0 });
+    record::put_device(words, at, false, Id { hi: 0, lo: 0 });
     Answer::Done
 }
 

@@ -48,16 +48,16 @@ pub fn set_aqmask(words: &mut Words, text: &[u8]) -> Answer
     ensures { λ r. ⌜ Obeys (setAqmask (now (text .entry))) (withAqmask (now (text .entry))) (words .entry) (words .exit) r ⌝ }
 {
     let old = record::aqmask(words);
-    let new = masktext::parse(text, old);
-    if !new.good {
+    let read = masktext::parse(text, old);
+    if !read.good {
         return Answer::Refused(Errno::Einval);
     }
-    let m = new.mask;
-    let reserved = Product {
+    let m = read.mask;
+    let wanted = Product {
         adapters: record::apmask(words),
         domains: m,
     };
-    if lookup::taken(words, SLOTS, reserved) {
+    if lookup::taken(words, SLOTS, wanted) {
         return Answer::Refused(Errno::Eaddrinuse);
     }
     record::hold_words(words);

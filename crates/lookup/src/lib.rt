@@ -52,14 +52,14 @@ fn occupied(words: &Words, slot: usize) -> bool
 pub fn free(words: &Words) -> usize
     ensures { λ r. ⌜ r ≡ freeSlot (devices (words .entry)) ⌝ }
 {
-    let mut slot = 0usize;
-    while slot < SLOTS {
-        if !occupied(words, slot) {
-            return slot;
+    let mut at = 0usize;
+    while at < SLOTS {
+        if !occupied(words, at) {
+            return at;
         }
-        slot += 1;
+        at += 1;
     }
-    slot
+    at
 }
 
 // Whether a queue that is wanted is assigned to another device than the one at a slot.

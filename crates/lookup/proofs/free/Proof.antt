@@ -31,19 +31,19 @@ returns : tie.Need-returns Inv-loop μ-loop
 returns c =
     let a = c .before .before .before .before .args in
     let l = c .before .before .before .loop in
-    sym (l .inv .1 ∙ turn-here 8 (l .slot) (empty (a .words .now)) (omega arith) (ap not (sym (c .before .occupied .ensures)) ∙ c .if1 .taken))
+    sym (l .inv .1 ∙ turn-here 8 (l .at) (empty (a .words .now)) (omega arith) (ap not (sym (c .before .occupied .ensures)) ∙ c .if1 .taken))
 
 loop-again : tie.Need-loop-again Inv-loop μ-loop
 loop-again c =
     let a = c .before .before .before .before .args in
     let l = c .before .before .before .loop in
-    (omega arith, l .inv .1 ∙ turn-next 8 (l .slot) (empty (a .words .now)) (omega arith) (ap not (sym (c .before .occupied .ensures)) ∙ c .if1 .left))
+    (omega arith, l .inv .1 ∙ turn-next 8 (l .at) (empty (a .words .now)) (omega arith) (ap not (sym (c .before .occupied .ensures)) ∙ c .if1 .left))
 
 returns-2 : tie.Need-returns-2 Inv-loop μ-loop
 returns-2 c =
     let a = c .before .before .args in
     let l = c .before .loop in
-    sym (l .inv .1 ∙ turn-end 8 (l .slot) (empty (a .words .now)) (omega arith))
+    sym (l .inv .1 ∙ turn-end 8 (l .at) (empty (a .words .now)) (omega arith))
 
 pub free-spec : {M : Type 1} → statement M
 free-spec =
