@@ -17,7 +17,7 @@ use Rattle.rules.specs.declared.Moved.{Moved}
 use Rattle.rules.specs.declared.Moved.the-variants.{Idle, Released, BoundHost, BoundPassthrough}
 use Rattle.rules.specs.State.{HostMasks, Config, queues}
 use Rattle.rules.specs.Queues.{reserved, configured, targetOf, moved, after, due, dueAt, sumBelow, remaining, rebound, moveAnswer, move, moves, sweepFrom, sweep, mostMoves, movesUsed}
-use Rattle.rules.proofs.Products.{in-product, queue-apid}
+use Rattle.rules.proofs.Products.{queue-split, in-product, queue-apid}
 use Rattle.rules.proofs.Sums.{sum-none, sum-more, sumFrom, sum-split}
 use Rattle.rules.proofs.Sweeps.{remaining-swept, sweeping}
 use Rattle.record.specs.Layout.{stateIn, hostIn, configIn, driverOf, byteOf}
@@ -140,10 +140,6 @@ two-moves ws n qs = refl
 pub due-read : (ws qs : List ℕ) (j : ℕ) → dueAt (stateIn ws qs) j ≡ due (driverOf (getD qs j 0)) (targetOf (hostIn ws) (configIn ws) j)
 unfolding dueAt stateIn
 due-read ws qs j = refl
-
--- the queue of k's adapter and domain is k
-pub queue-split : (k : ℕ) → k < queues → k / 256 % 256 * 256 + k % 256 ≡ k
-queue-split k h = omega arith
 
 pub due-split : (ws qs : List ℕ) (k : ℕ) → k < queues
     → due (driverOf (getD qs (k / 256 % 256 * 256 + k % 256) 0)) (targetOf (hostIn ws) (configIn ws) (k / 256 % 256 * 256 + k % 256))

@@ -34,10 +34,6 @@ use Rattle.host.specs.Masks.{maskOr, withMask, gone, configured as confi
 pub read-words : (r : MaskRead) {vs : List Val} → Is the-row r vs → Sized 64 4 (r .mask .words)
 read-words r h = mask-words (r .mask) (h .1 .1 .1 .0)
 
--- a queue by its adapter and its domain
-pub queue-split : (k : ℕ) → k < queues → k / 256 % 256 * 256 + k % 256 ≡ k
-queue-split k h = omega arith
-
 -- a queue that was not configured, or still is, stays as it is, and one that goes is unbound
 pub stays : {A : Type 0} (w s : Bool) (a b : A) → (w && not s) ≡ false → b ≡ cond (w && not s) a b
 stays w s a b e = sym (ap (λ (t : Bool). cond t a b) e)

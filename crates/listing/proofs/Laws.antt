@@ -86,10 +86,6 @@ unfolding linesOf
 lines-snoc [] q = append-nil (lineOf q)
 lines-snoc (p ∷ qs) q = ap (λ (l : List ℕ). lineOf p ++ l) (lines-snoc qs q) ∙ sym (append-assoc (lineOf p) (linesOf qs) (lineOf q))
 
--- the queue of its own two numbers
-pub queue-of : (k : ℕ) → k < queues → k / 256 % 256 * 256 + k % 256 ≡ k
-queue-of k h = omega arith
-
 -- a line, byte by byte
 pub line-stores : (b : List ℕ) (at a d s t x y : ℕ) → at + lineSize ≤ length b → d < 256
     → s ≡ hexDigit (a / 16) → t ≡ hexDigit (a % 16) → x ≡ hexDigit (d / 16) → y ≡ hexDigit (d % 16)

@@ -5,12 +5,11 @@ use native.Mathlib.Nat.{mod-lt, div-lt-iff-lt-mul}
 use native.Mathlib.Omega.{arith}
 use mathlib.Core.Bool.{Bool, true, false, not, _&&_, and-eq-true-iff}
 use mathlib.Core.Path.{_≡_, refl, sym, ap, ap₂, subst, _∙_, fun-ext}
-use mathlib.Core.Logic.{_↔_}
 use lib.Dec.{eqb, lit<}
 use lib.Arith.{digits-div, digits-mod}
 use borrow.Author.Tests.{ne-eqb}
 use Rattle.mask.specs.Bits.{Bits, someBelow, both}
-use Rattle.mask.proofs.Laws.{same-test, some-intro, some-elim, some-exactly, some-cong, none-some}
+use Rattle.mask.proofs.Laws.{same-test, some-intro, some-elim, some-cong, none-some}
 use Rattle.rules.specs.State.{Devices, inProduct, slots, queues}
 use Rattle.rules.specs.Commands.{product, assigned, assignedElsewhere}
 
@@ -36,6 +35,10 @@ queue-apqi a d h = digits-mod a h
 
 pub queue-below : (a d : ℕ) → a < 256 → d < 256 → a * 256 + d < queues
 queue-below a d h k = omega arith
+
+-- a queue by the bytes of its adapter and its domain
+pub queue-split : (k : ℕ) → k < queues → k / 256 % 256 * 256 + k % 256 ≡ k
+queue-split k h = omega arith
 
 -- a queue in a product, by its adapter and its domain
 pub in-product : (us vs : Bits) (a d : ℕ) → d < 256 → inProduct us vs (a * 256 + d) ≡ (us a && vs d)
@@ -80,11 +83,6 @@ module _ (a d a′ d′ : Bits) where
   -- the test of whether two products share a queue
   pub products-meet : someBelow queues (both (inProduct a d) (inProduct a′ d′)) ≡ (someBelow 256 (both a a′) && someBelow 256 (both d d′))
   products-meet = same-test forth back
-
-  -- it is yes exactly when some queue is in both
-  pub products-exactly : ((someBelow 256 (both a a′) && someBelow 256 (both d d′)) ≡ true)
-      ↔ ((q : ℕ) × (q < queues) × (both (inProduct a d) (inProduct a′ d′) q ≡ true))
-  products-exactly = subst (λ (b : Bool). (b ≡ true) ↔ ((q : ℕ) × (q < queues) × (both (inProduct a d) (inProduct a′ d′) q ≡ true))) products-meet (some-exactly queues (both (inProduct a d) (inProduct a′ d′)))
 
 -- some of the first n for some of the first k, in either order
 pub some-swap : (n k : ℕ) (f : ℕ → ℕ → Bool) → someBelow n (λ q. someBelow k (λ j. f j q)) ≡ someBelow k (λ j. someBelow n (λ q. f j q))

@@ -2,7 +2,7 @@
 -- Assumes nothing.
 use native.Mathlib.Omega.{arith}
 use borrow.Author.Tests.{eq-eqb, ne-eqb}
-use Rattle.bind.proofs.Laws.{queue-split}
+use Rattle.rules.proofs.Products.{queue-split}
 use borrow.Author.Needs.{needs}
 use Rattle.bind.proofs.finish.Statement.{statement}
 use Rattle.bind.proofs.finish.Tie as tie

@@ -5,7 +5,8 @@ use denote.Ref.{now}
 use borrow.Author.Needs.{needs}
 use Rattle.rules.specs.Queues.{targetOf, due}
 use Rattle.record.specs.Layout.{hostIn, configIn}
-use Rattle.bind.proofs.Laws.{queue-split, due-split}
+use Rattle.rules.proofs.Products.{queue-split}
+use Rattle.bind.proofs.Laws.{due-split}
 use Rattle.bind.proofs.need_at.Statement.{statement}
 use Rattle.bind.proofs.need_at.Tie as tie
 

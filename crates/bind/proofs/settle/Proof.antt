@@ -3,7 +3,7 @@
 use native.Mathlib.Omega.{arith}
 use mathlib.Core.Path.{_≡_}
 use Rattle.bind.specs.Moves.{movesBytes}
-use Rattle.bind.proofs.Laws.{queue-split}
+use Rattle.rules.proofs.Products.{queue-split}
 use borrow.Author.Needs.{needs}
 use Rattle.bind.proofs.settle.Statement.{statement}
 use Rattle.bind.proofs.settle.Tie as tie

@@ -8,7 +8,8 @@ use borrow.Author.Tests.{not-true, not-false}
 use borrow.Author.Needs.{needs}
 use Rattle.record.specs.Layout.{byteOf}
 use Rattle.product.specs.Meet.{queuesOf}
-use Rattle.host.proofs.Laws.{queue-split, stays, goes}
+use Rattle.rules.proofs.Products.{queue-split}
+use Rattle.host.proofs.Laws.{stays, goes}
 use Rattle.host.proofs.unbind_gone.Statement.{statement}
 use Rattle.host.proofs.unbind_gone.Tie as tie
 

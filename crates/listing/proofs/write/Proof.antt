@@ -8,7 +8,8 @@ use borrow.Author.Needs.{needs}
 use Rattle.rules.specs.State.{queues}
 use Rattle.rules.specs.Commands.{answered}
 use Rattle.product.specs.Meet.{queuesOf}
-use Rattle.listing.proofs.Laws.{Sofar, sofar-as, sofar-start, sofar-skip, sofar-line, sofar-full, sofar-end, queue-of}
+use Rattle.rules.proofs.Products.{queue-split}
+use Rattle.listing.proofs.Laws.{Sofar, sofar-as, sofar-start, sofar-skip, sofar-line, sofar-full, sofar-end}
 use Rattle.listing.proofs.write.Statement.{statement}
 use Rattle.listing.proofs.write.Tie as tie
 
@@ -29,13 +30,13 @@ unfolding answered
 returns c =
     let h = c .before .before in
     let l = h .before .before .loop in
-    (refl, sofar-full (l .inv) _ refl refl (queue-of (l .queue) (omega arith)) (omega arith) (sym (h .has .ensures) ∙ c .before .if1 .taken) (omega arith) (omega arith))
+    (refl, sofar-full (l .inv) _ refl refl (queue-split (l .queue) (omega arith)) (omega arith) (sym (h .has .ensures) ∙ c .before .if1 .taken) (omega arith) (omega arith))
 
 loop-again : tie.Need-loop-again Inv-loop μ-loop
 loop-again c =
     let h = c .before in
     let l = h .before .before .loop in
-    let q = queue-of (l .queue) (omega arith) in
+    let q = queue-split (l .queue) (omega arith) in
     ⊎-elim
     (λ w. sofar-as (w .6) (w .7) (w .8) (sofar-line (l .inv) _ q (omega arith) (sym (h .has .ensures) ∙ w .0 .taken) (omega arith) (w .3 .ensures)))
     (λ w. sofar-as (w .1) (w .2) (w .3) (sofar-skip (l .inv) q (omega arith) (sym (h .has .ensures) ∙ w .0 .left)))
