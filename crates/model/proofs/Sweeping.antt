@@ -1,4 +1,4 @@
--- Lists of steps one after another, and a sweep as a list of steps: it leaves what its moves leave, and has no commands and no answers.
+-- Lists of steps one after another, and a sweep as a list of steps: it leaves what its moves leave, and has no answers.
 -- Assumes nothing.
 use Prim.Native.Nat.{ℕ, zero, suc, _+_, _-_, _*_, _≤_, _<_, min}
 use native.Mathlib.Nat.{div-add-mod', div-lt-iff-lt-mul, mod-lt, mod-eq-of-lt}
@@ -12,7 +12,7 @@ use Rattle.rules.specs.Queues.{dueAt, moves, mostMoves}
 use Rattle.rules.specs.Queues as Queues
 use Rattle.rules.specs.Commands.{errnoOf, stateAfter}
 use Rattle.rules.specs.Sweeps.{sweptFrom, swept, moveEach}
-use Rattle.model.specs.Steps.{Step, Command, command, move, queueOf, rule, after, afterAll, answers, commandsOf}
+use Rattle.model.specs.Steps.{Step, Command, command, move, queueOf, rule, after, afterAll, answers}
 use Rattle.model.specs.Sweeps.{sweepSteps}
 
 -- ---- one list after another
@@ -27,12 +27,6 @@ unfolding answers afterAll after
 answers-append [] ys s = refl
 answers-append (command c ∷ xs) ys s = ap (λ (l : List ℕ). errnoOf (rule c s) ∷ l) (answers-append xs ys (stateAfter s (rule c s)))
 answers-append (move a d ∷ xs) ys s = answers-append xs ys (Queues.move (queueOf a d) s)
-
-pub commands-append : (xs ys : List Step) → commandsOf (xs ++ ys) ≡ commandsOf xs ++ commandsOf ys
-unfolding commandsOf
-commands-append [] ys = refl
-commands-append (command c ∷ xs) ys = ap (λ (l : List Command). c ∷ l) (commands-append xs ys)
-commands-append (move a d ∷ xs) ys = commands-append xs ys
 
 -- ---- a sweep
 
@@ -67,20 +61,11 @@ pub sweep-steps : (b : ℕ) (s : State) → afterAll (sweepSteps b s) s ≡ move
 unfolding sweepSteps swept
 sweep-steps b s = steps-from queues 0 (min b mostMoves) s (omega arith) s
 
--- moves are no commands, and have no answers
-no-commands : (qs : List ℕ) → commandsOf (map step qs) ≡ []
-unfolding commandsOf
-no-commands [] = refl
-no-commands (q ∷ qs) = no-commands qs
-
+-- moves have no answers
 no-answers : (qs : List ℕ) (s : State) → answers (map step qs) s ≡ []
 unfolding answers
 no-answers [] s = refl
 no-answers (q ∷ qs) s = no-answers qs (Queues.move (queueOf (apid q) (apqi q)) s)
-
-pub commands-none : (b : ℕ) (s : State) → commandsOf (sweepSteps b s) ≡ []
-unfolding sweepSteps
-commands-none b s = no-commands (swept b s)
 
 pub answers-moves : (b : ℕ) (s t : State) → answers (sweepSteps b s) t ≡ []
 unfolding sweepSteps
