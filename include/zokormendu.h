@@ -1,8 +1,8 @@
 /*
  * Which KVM guest gets which queue of a crypto card: the C interface of a proved library.
  *
- * An adapter (APID) and a usage domain (APQI), each 0 to 255, name a queue. The host reserves queues by apmask and
- * aqmask; the others can be passed through to a guest by way of a mediated device, which has a 16-byte id.
+ * A queue is named by an adapter (APID) and a usage domain (APQI), both from 0 to 255. The host reserves queues by apmask
+ * and aqmask; the others can be passed through to a guest by way of a mediated device, which has a 16-byte id.
  *
  * MEMORY. The caller owns all of it and lends it for the length of a call. The library allocates nothing, keeps no
  * pointer and has no state of its own, so a record ends when its memory does and there is nothing to free.
@@ -81,7 +81,7 @@ extern "C" {
 #define ZK_ENODEV 19        /* a number or bit above its limit */
 #define ZK_EINVAL 22        /* bad text; a limit above 255; close of a device that is not open */
 #define ZK_ENOSPC 28        /* every slot is taken; a listing buffer under ZK_LINE_BYTES */
-#define ZK_EADDRINUSE 98    /* a queue is assigned elsewhere, or a new mask takes an assigned one */
+#define ZK_EADDRINUSE 98    /* another device has the queue, or a new mask would reserve one that a device has */
 #define ZK_EADDRNOTAVAIL 99 /* a queue is reserved */
 
 /* A queue's driver. */

@@ -89,7 +89,7 @@ fn limit(words: &Words, kind: Kind) -> u8
     }
 }
 
-// Assigns a number that is in range to the device at slot p.
+// Assigns a number that is in range to the device at a slot.
 fn assign_at(words: &mut Words, kind: Kind, slot: usize, number: u8) -> Answer
     requires { ⌜ slot < slots ⌝ }
     ensures { λ r. ⌜ Obeys (assignAt kind number slot) (assignedAt kind slot number) (words .entry) (words .exit) r ⌝ }

@@ -6,7 +6,7 @@ use mathlib.Core.Path.{_≡_}
 use mathlib.Core.Bool.{cond}
 use lib.Dec.{eqb}
 use lib.ListN.{set}
-use denote.Ref.{RefT, now}
+use denote.Ref.{now}
 use Rattle.rules.specs.declared.Driver.{Driver}
 use Rattle.rules.specs.declared.Driver.the-variants.{Unbound, Host, Passthrough}
 use Rattle.rules.specs.declared.Moved.{Moved}
@@ -15,6 +15,7 @@ use Rattle.rules.specs.State.{queues}
 use Rattle.rules.specs.Queues.{moveAnswer, move, dueAt, mostMoves, Remaining}
 use Rattle.rules.specs.Sweeps.{Sweep}
 use Rattle.record.specs.Layout.{stateIn, byteOf}
+use Rattle.record.specs.Lent.{Lent}
 use Rattle.bind.specs.declared.Swept.{Swept}
 
 -- the bytes after a move of queue n that answered m: an idle move writes nothing
@@ -55,11 +56,11 @@ pub record Sweeping (budget : ℕ) (ws qs rs : List ℕ) (r : Swept) : Type 0 wh
   pub drivers : rs ≡ sweepBytes ws queues 0 (min budget mostMoves) qs
 
 -- the same of lent memory, at entry and at exit
-abbrev pub Moves : ℕ → RefT (List ℕ) → RefT (List ℕ) → RefT (List ℕ) → Moved → Type 0
+abbrev pub Moves : ℕ → Lent → Lent → Lent → Moved → Type 0
 Moves q words drivers after r = Moving q (now words) (now drivers) (now after) r
 
-abbrev pub Sweeps : ℕ → RefT (List ℕ) → RefT (List ℕ) → RefT (List ℕ) → Swept → Type 0
+abbrev pub Sweeps : ℕ → Lent → Lent → Lent → Swept → Type 0
 Sweeps budget words drivers after r = Sweeping budget (now words) (now drivers) (now after) r
 
-abbrev pub Remains : RefT (List ℕ) → RefT (List ℕ) → ℕ → Type 0
+abbrev pub Remains : Lent → Lent → ℕ → Type 0
 Remains words drivers r = Remaining (stateIn (now words) (now drivers)) r

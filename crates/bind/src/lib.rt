@@ -10,7 +10,7 @@ use rules::Moved;
 ghost use mathlib.Core.Path.{_≡_};
 ghost use Prim.Native.Nat.{_<_, _≤_};
 ghost use mathlib.Core.Bool.{_&&_};
-ghost use Rattle.rules.specs.Queues.{targetOf, moved, due, dueAt};
+ghost use Rattle.rules.specs.Queues.{reserved, targetOf, moved, due, dueAt};
 ghost use Rattle.rules.specs.State.{queues, apqn};
 ghost use Rattle.record.specs.Lent.{host, config, state};
 ghost use Rattle.bind.specs.Moves.{movesBytes, finishedBytes, Moves, Sweeps, Remains};
@@ -51,7 +51,7 @@ pub fn target(words: &Words, adapter: Apid, domain: Apqi) -> Driver
 
 // Whether the adapter and the domain are both in the host's masks.
 fn reserved(words: &Words, adapter: Apid, domain: Apqi) -> bool
-    ensures { λ r. ⌜ r ≡ (host (words .entry) .apmask (adapter .0) && host (words .entry) .aqmask (domain .0)) ⌝ }
+    ensures { λ r. ⌜ r ≡ reserved (host (words .entry)) (apqn adapter domain) ⌝ }
 {
     if !record::apmask(words).has_adapter(adapter) {
         return false;

@@ -46,8 +46,8 @@ pub record OnWords (rule : State → Outcome State) (change : List ℕ → List 
   pub words : CarriedWords rule change (m .words) (n .words) r
   pub drivers : n .drivers ≡ m .drivers
 
--- A call on the memory m, which it leaves as n: a case for each function that changes memory, with what its contract
--- promises, the steps that it stands for in a list, and its answers to commands.
+-- A call on the memory m, which it leaves as n: a case for each function of the service that changes memory, with what its
+-- contract promises, the steps that it stands for in a list, and its answers to commands.
 pub data Call : Memory → Memory → List Step → List ℕ → Type 0 where
   freshRefused : {m n : Memory} (a d : ℕ) (r : Answer) → Carried (start a d) (λ k. freshMemory a d) m n r → (answered r ≡ 0 → ⊥) → Call m n [] []
   creates : {m n : Memory} (i : Id) (r : Answer) → OnWords (Commands.create i) (created i) m n r → Call m n (command (create i) ∷ []) (answered r ∷ [])

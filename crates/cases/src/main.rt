@@ -1,4 +1,4 @@
-// Calls every function of the service, and prints what each answers. The expected output is made by tests/cases.py,
+// Calls the functions of the service, and prints what each answers. The expected output is made by tests/cases.py,
 // with a model in Python that is written from the rules (docs/RULES.md) and shares no code with the library.
 use guest::Shown;
 use listing::Listed;

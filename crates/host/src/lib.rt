@@ -72,13 +72,13 @@ pub fn configure(words: &mut Words, drivers: &mut Drivers, configuration: Config
     let adapters = configuration.adapters;
     let domains = configuration.domains;
     let controls = configuration.controls;
-    if adapters.exceeds(record::max_adapter(words).0) {
+    if adapters.exceeds_adapter(record::max_adapter(words)) {
         return Answer::Refused(Errno::Enodev);
     }
-    if domains.exceeds(record::max_domain(words).0) {
+    if domains.exceeds_domain(record::max_domain(words)) {
         return Answer::Refused(Errno::Enodev);
     }
-    if controls.exceeds(record::max_domain(words).0) {
+    if controls.exceeds_domain(record::max_domain(words)) {
         return Answer::Refused(Errno::Enodev);
     }
     record::hold_words(words);

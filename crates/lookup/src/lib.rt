@@ -28,7 +28,7 @@ pub fn find(words: &Words, id: Id) -> usize
     slot
 }
 
-// Whether the device with an id is at slot p.
+// Whether the device with an id is at a slot.
 fn is_at(words: &Words, slot: usize, id: Id) -> bool
     ensures { λ r. ⌜ r ≡ (devices (words .entry) slot .present && sameId id (devices (words .entry) slot .id)) ⌝ }
 {
@@ -41,7 +41,7 @@ fn is_at(words: &Words, slot: usize, id: Id) -> bool
     false
 }
 
-// Whether there is a device at slot p, open or not.
+// Whether there is a device at a slot, open or not.
 fn occupied(words: &Words, slot: usize) -> bool
     ensures { λ r. ⌜ r ≡ devices (words .entry) slot .present ⌝ }
 {

@@ -132,6 +132,19 @@ impl Mask {
         self.meets(Mask::beyond(limit))
     }
 
+    // The same of a mask of adapters, and of one of domains.
+    pub fn exceeds_adapter(self, limit: Apid) -> bool
+        ensures { λ r. ⌜ r ≡ someBelow 256 (both (bits self) (bitsAbove (limit .0))) ⌝ }
+    {
+        self.exceeds(limit.0)
+    }
+
+    pub fn exceeds_domain(self, limit: Apqi) -> bool
+        ensures { λ r. ⌜ r ≡ someBelow 256 (both (bits self) (bitsAbove (limit .0))) ⌝ }
+    {
+        self.exceeds(limit.0)
+    }
+
     // How many bits are set.
     pub fn count(self) -> u32
         ensures { λ r. ⌜ r ≡ countBelow 256 (bits self) ⌝ }

@@ -35,7 +35,7 @@ const CONTROLS: usize = 18;
 
 const TYPES: usize = 22;
 
-const FIRST_SLOT: usize = 278;
+const FIRST_SLOT: usize = TYPES + 256;
 
 // The words of a slot.
 const SLOT_WORDS: usize = 16;
@@ -154,7 +154,7 @@ pub fn hardware_type(words: &Words, adapter: Apid) -> u64
     words[TYPES + adapter.0 as usize]
 }
 
-// Whether there is a device at slot p. Here and below there is none past the last slot.
+// Whether there is a device at a slot. Here and below there is none past the last slot.
 pub fn present(words: &Words, slot: usize) -> bool
     ensures { λ r. ⌜ r ≡ devices (words .entry) slot .present ⌝ }
 {
@@ -185,7 +185,7 @@ pub fn id(words: &Words, slot: usize) -> Id
     Id { hi: 0, lo: 0 }
 }
 
-// The assigned adapters, domains or control domains of the device at slot p.
+// The assigned adapters, domains or control domains of the device at a slot.
 pub fn numbers(words: &Words, slot: usize, kind: Kind) -> Mask
     ensures { λ r. ⌜ bits r ≡ numbersOf kind (devices (words .entry) slot) ⌝ }
 {
@@ -233,7 +233,7 @@ pub fn put_open(words: &mut Words, slot: usize, opened: bool)
     }
 }
 
-// Gives slot p to a device with an id, or empties it: nothing is assigned, and it is not open.
+// Gives a slot to a device with an id, or empties it: nothing is assigned, and it is not open.
 pub fn put_device(words: &mut Words, slot: usize, present: bool, id: Id)
     ensures { λ r. ⌜ now (words .exit) ≡ putDevice (now (words .entry)) slot present id ⌝ }
 {
@@ -272,7 +272,7 @@ fn put_types(words: &mut Words, adapters: Mask, types: [u8; 256])
 {
     let mut a = 0usize;
     while a < 256 {
-        words[TYPES + a] = type_of(adapters.has((a % 256) as u8), types[a]);
+        words[TYPES + a] = type_of(adapters.has_adapter(Apid((a % 256) as u8)), types[a]);
         a += 1;
     }
 }

@@ -9,7 +9,8 @@ use Rattle.mask.specs.Bits.{Bits}
 use Rattle.rules.specs.declared.Driver.{Driver}
 use Rattle.rules.specs.declared.Driver.the-variants.{Unbound, Host, Passthrough}
 use Rattle.rules.specs.State.{apqn}
-use Rattle.rules.specs.Queues.{targetOf}
+use Rattle.rules.specs.Queues.{reserved, targetOf}
+use Rattle.rules.proofs.Products.{in-product}
 use Rattle.record.specs.Lent.{host, config}
 use Rattle.bind.proofs.Laws.{target-by}
 use borrow.Author.Needs.{needs}
@@ -24,8 +25,13 @@ parts : (c : tie.Start) →
     let a = c .args in
     targetOf (host (a .words)) (config (a .words)) (apqn (a .adapter) (a .domain))
     ≡ cond (config (a .words) .adapters (a .adapter .0) && config (a .words) .domains (a .domain .0))
-    (owner c (host (a .words) .apmask (a .adapter .0) && host (a .words) .aqmask (a .domain .0))) Unbound
-parts c = target-by (host (c .args .words)) (config (c .args .words)) (c .args .adapter .0) (c .args .domain .0) (omega arith)
+    (owner c (reserved (host (a .words)) (apqn (a .adapter) (a .domain)))) Unbound
+unfolding reserved
+parts c =
+    let a = c .args in
+    target-by (host (a .words)) (config (a .words)) (a .adapter .0) (a .domain .0) (omega arith)
+    ∙ ap (λ (b : Bool). cond (config (a .words) .adapters (a .adapter .0) && config (a .words) .domains (a .domain .0)) (owner c b) Unbound)
+    (sym (in-product (host (a .words) .apmask) (host (a .words) .aqmask) (a .adapter .0) (a .domain .0) (omega arith)))
 
 -- the adapter's and the domain's bit
 adapter : (c : tie.After-has-adapter) → let a = c .before .before .args in config (a .words) .adapters (a .adapter .0) ≡ c .has-adapter .result

@@ -17,7 +17,7 @@ returns c =
     let g = a .configuration in
     config-refused g (a .words .now) (a .drivers .now)
     (by-limits g (a .words .now) (a .drivers .now) true _ _
-    (above (g .adapters) _ _ _ _ (c .if1 .taken) (c .before .exceeds .ensures) (c .before .before .max-adapter .ensures))
+    (above (g .adapters) _ _ _ _ (c .if1 .taken) (c .before .exceeds-adapter .ensures) (c .before .before .max-adapter .ensures))
     refl
     refl)
 
@@ -27,8 +27,8 @@ returns-2 c =
     let g = a .configuration in
     config-refused g (a .words .now) (a .drivers .now)
     (by-limits g (a .words .now) (a .drivers .now) false true _
-    (above (g .adapters) _ _ _ _ (c .before .before .before .before .if1 .left) (c .before .before .before .before .before .exceeds .ensures) (c .before .before .before .before .before .before .max-adapter .ensures))
-    (above (g .domains) _ _ _ _ (c .if2 .taken) (c .before .exceeds2 .ensures) (c .before .before .max-domain .ensures))
+    (above (g .adapters) _ _ _ _ (c .before .before .before .before .if1 .left) (c .before .before .before .before .before .exceeds-adapter .ensures) (c .before .before .before .before .before .before .max-adapter .ensures))
+    (above (g .domains) _ _ _ _ (c .if2 .taken) (c .before .exceeds-domain .ensures) (c .before .before .max-domain .ensures))
     refl)
 
 returns-3 : tie.Need-returns-3
@@ -37,9 +37,9 @@ returns-3 c =
     let g = a .configuration in
     config-refused g (a .words .now) (a .drivers .now)
     (by-limits g (a .words .now) (a .drivers .now) false false true
-    (above (g .adapters) _ _ _ _ (c .before .before .before .before .before .before .before .before .if1 .left) (c .before .before .before .before .before .before .before .before .before .exceeds .ensures) (c .before .before .before .before .before .before .before .before .before .before .max-adapter .ensures))
-    (above (g .domains) _ _ _ _ (c .before .before .before .before .if2 .left) (c .before .before .before .before .before .exceeds2 .ensures) (c .before .before .before .before .before .before .max-domain .ensures))
-    (above (g .controls) _ _ _ _ (c .if3 .taken) (c .before .exceeds3 .ensures) (c .before .before .max-domain2 .ensures)))
+    (above (g .adapters) _ _ _ _ (c .before .before .before .before .before .before .before .before .if1 .left) (c .before .before .before .before .before .before .before .before .before .exceeds-adapter .ensures) (c .before .before .before .before .before .before .before .before .before .before .max-adapter .ensures))
+    (above (g .domains) _ _ _ _ (c .before .before .before .before .if2 .left) (c .before .before .before .before .before .exceeds-domain .ensures) (c .before .before .before .before .before .before .max-domain .ensures))
+    (above (g .controls) _ _ _ _ (c .if3 .taken) (c .before .exceeds-domain2 .ensures) (c .before .before .max-domain2 .ensures)))
 
 returns-4 : tie.Need-returns-4
 returns-4 c =
@@ -50,9 +50,9 @@ returns-4 c =
     let qs = a .drivers .now in
     config-done g ws qs
     (by-limits g ws qs false false false
-    (above (g .adapters) _ _ _ _ (c .before .before .before .before .before .before .before .before .before .before .before .before .before .before .before .before .before .before .before .before .if1 .left) (c .before .before .before .before .before .before .before .before .before .before .before .before .before .before .before .before .before .before .before .before .before .exceeds .ensures) (c .before .before .before .before .before .before .before .before .before .before .before .before .before .before .before .before .before .before .before .before .before .before .max-adapter .ensures))
-    (above (g .domains) _ _ _ _ (c .before .before .before .before .before .before .before .before .before .before .before .before .before .before .before .before .if2 .left) (c .before .before .before .before .before .before .before .before .before .before .before .before .before .before .before .before .before .exceeds2 .ensures) (c .before .before .before .before .before .before .before .before .before .before .before .before .before .before .before .before .before .before .max-domain .ensures))
-    (above (g .controls) _ _ _ _ (c .before .before .before .before .before .before .before .before .before .before .before .before .if3 .left) (c .before .before .before .before .before .before .before .before .before .before .before .before .before .exceeds3 .ensures) (c .before .before .before .before .before .before .before .before .before .before .before .before .before .before .max-domain2 .ensures)))
+    (above (g .adapters) _ _ _ _ (c .before .before .before .before .before .before .before .before .before .before .before .before .before .before .before .before .before .before .before .before .if1 .left) (c .before .before .before .before .before .before .before .before .before .before .before .before .before .before .before .before .before .before .before .before .before .exceeds-adapter .ensures) (c .before .before .before .before .before .before .before .before .before .before .before .before .before .before .before .before .before .before .before .before .before .before .max-adapter .ensures))
+    (above (g .domains) _ _ _ _ (c .before .before .before .before .before .before .before .before .before .before .before .before .before .before .before .before .if2 .left) (c .before .before .before .before .before .before .before .before .before .before .before .before .before .before .before .before .before .exceeds-domain .ensures) (c .before .before .before .before .before .before .before .before .before .before .before .before .before .before .before .before .before .before .max-domain .ensures))
+    (above (g .controls) _ _ _ _ (c .before .before .before .before .before .before .before .before .before .before .before .before .if3 .left) (c .before .before .before .before .before .before .before .before .before .before .before .before .before .exceeds-domain2 .ensures) (c .before .before .before .before .before .before .before .before .before .before .before .before .before .before .max-domain2 .ensures)))
     (c .put-configuration .ensures)
     (c .before .before .unbind .ensures
     ∙ ap (λ (u : Bits). unbind qs u queues)

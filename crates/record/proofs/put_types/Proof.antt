@@ -31,7 +31,7 @@ loop-again c =
       omega arith,
       types-next (r .words .now) (c .before .before .before .loop .words) (λ i. cond (bits (r .adapters) i) (getD (r .t3) i 0) 0) a (c .type-of .result)
           (c .before .before .before .loop .inv .1)
-          (c .type-of .ensures ∙ ap (λ (b : Bool). cond b (getD (r .t3) a 0) 0) (c .before .has .ensures ∙ ap (bits (r .adapters)) (mod-eq-of-lt h))),
+          (c .type-of .ensures ∙ ap (λ (b : Bool). cond b (getD (r .t3) a 0) 0) (c .before .has-adapter .ensures ∙ ap (bits (r .adapters)) (mod-eq-of-lt h))),
     )
 
 returns : tie.Need-returns Inv-loop μ-loop
