@@ -1,4 +1,5 @@
 -- What assigning and unassigning write: one mask of one device.
+-- The rules: RULES.md, "Commands".
 -- Assumes nothing.
 use Prim.Native.Nat.{ℕ}
 use mathlib.Core.List.{List}

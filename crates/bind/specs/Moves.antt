@@ -1,4 +1,5 @@
 -- What moves and sweeps write: the driver bytes, one for each queue.
+-- The rules: RULES.md, "Moves".
 -- Assumes nothing.
 use Prim.Native.Nat.{ℕ, zero, suc, _-_, min}
 use mathlib.Core.List.{List}

@@ -1,5 +1,6 @@
 -- Calls of the functions that change the memory of a record, chains of such calls from a fresh record, and what holds of
 -- every chain.
+-- The rules: RULES.md, "Reference model and demand 3".
 -- Assumes nothing.
 use Prim.Native.Nat.{ℕ, _+_, _*_, _≤_, _<_}
 use mathlib.Core.Bool.{Bool, false}
@@ -46,17 +47,27 @@ pub record OnWords (rule : State → Outcome State) (change : List ℕ → List 
   pub words : CarriedWords rule change (m .words) (n .words) r
   pub drivers : n .drivers ≡ m .drivers
 
+-- a call of fresh with limits a and d
+abbrev pub Freshened : ℕ → ℕ → Memory → Memory → Answer → Type 0
+Freshened a d m n r = Carried (start a d) (λ k. freshMemory a d) m n r
+
 -- A call on the memory m, which it leaves as n: a case for each function of the service that changes memory, with what its
 -- contract promises, the steps that it stands for in a list, and its answers to commands.
 pub data Call : Memory → Memory → List Step → List ℕ → Type 0 where
-  freshRefused : {m n : Memory} (a d : ℕ) (r : Answer) → Carried (start a d) (λ k. freshMemory a d) m n r → (answered r ≡ 0 → ⊥) → Call m n [] []
-  creates : {m n : Memory} (i : Id) (r : Answer) → OnWords (Commands.create i) (created i) m n r → Call m n (command (create i) ∷ []) (answered r ∷ [])
-  removes : {m n : Memory} (i : Id) (r : Answer) → OnWords (Commands.remove i) (removed i) m n r → Call m n (command (remove i) ∷ []) (answered r ∷ [])
-  opens : {m n : Memory} (i : Id) (r : Answer) → OnWords (Commands.openDevice i) (opened i) m n r → Call m n (command (openIt i) ∷ []) (answered r ∷ [])
-  closes : {m n : Memory} (i : Id) (r : Answer) → OnWords (Commands.closeDevice i) (closed i) m n r → Call m n (command (closeIt i) ∷ []) (answered r ∷ [])
-  assigns : {m n : Memory} (k : Kind) (i : Id) (text : List ℕ) (r : Answer) → Assigning k i text (m .words) (n .words) r → n .drivers ≡ m .drivers
+  freshRefused : {m n : Memory} (a d : ℕ) (r : Answer) → Freshened a d m n r → (answered r ≡ 0 → ⊥) → Call m n [] []
+  creates : {m n : Memory} (i : Id) (r : Answer) → OnWords (Commands.create i) (created i) m n r
+      → Call m n (command (create i) ∷ []) (answered r ∷ [])
+  removes : {m n : Memory} (i : Id) (r : Answer) → OnWords (Commands.remove i) (removed i) m n r
+      → Call m n (command (remove i) ∷ []) (answered r ∷ [])
+  opens : {m n : Memory} (i : Id) (r : Answer) → OnWords (Commands.openDevice i) (opened i) m n r
+      → Call m n (command (openIt i) ∷ []) (answered r ∷ [])
+  closes : {m n : Memory} (i : Id) (r : Answer) → OnWords (Commands.closeDevice i) (closed i) m n r
+      → Call m n (command (closeIt i) ∷ []) (answered r ∷ [])
+  assigns : {m n : Memory} (k : Kind) (i : Id) (text : List ℕ) (r : Answer)
+      → Assigning k i text (m .words) (n .words) r → n .drivers ≡ m .drivers
       → Call m n (command (assign k i text) ∷ []) (answered r ∷ [])
-  unassigns : {m n : Memory} (k : Kind) (i : Id) (text : List ℕ) (r : Answer) → OnWords (Commands.unassign k i text) (unassigned k i text) m n r
+  unassigns : {m n : Memory} (k : Kind) (i : Id) (text : List ℕ) (r : Answer)
+      → OnWords (Commands.unassign k i text) (unassigned k i text) m n r
       → Call m n (command (unassign k i text) ∷ []) (answered r ∷ [])
   setsApmask : {m n : Memory} (text : List ℕ) (r : Answer) → OnWords (Commands.setApmask text) (withApmask text) m n r
       → Call m n (command (setApmask text) ∷ []) (answered r ∷ [])
@@ -64,15 +75,18 @@ pub data Call : Memory → Memory → List Step → List ℕ → Type 0 where
       → Call m n (command (setAqmask text) ∷ []) (answered r ∷ [])
   configures : {m n : Memory} (c : Configuration) (r : Answer) → Carried (Commands.configure c) (configured c) m n r
       → Call m n (command (configure c) ∷ []) (answered r ∷ [])
-  moves : {m n : Memory} (a d : ℕ) (r : Moved) → a < 256 → d < 256 → Moving (a * 256 + d) (m .words) (m .drivers) (n .drivers) r → n .words ≡ m .words
+  moves : {m n : Memory} (a d : ℕ) (r : Moved) → a < 256 → d < 256
+      → Moving (a * 256 + d) (m .words) (m .drivers) (n .drivers) r → n .words ≡ m .words
       → Call m n (move a d ∷ []) []
-  sweeps : {m n : Memory} (b : ℕ) (r : Swept) → Sweeping b (m .words) (m .drivers) (n .drivers) r → n .words ≡ m .words → Call m n (sweepSteps b (read m)) []
+  sweeps : {m n : Memory} (b : ℕ) (r : Swept) → Sweeping b (m .words) (m .drivers) (n .drivers) r → n .words ≡ m .words
+      → Call m n (sweepSteps b (read m)) []
 
 -- A chain of calls: an accepted fresh on any memory, then any calls, each on the memory that the one before left.
 pub data Chain : Limits → Memory → List Step → List ℕ → Type 0 where
-  begins : {m n : Memory} (a d : ℕ) (r : Answer) → Carried (start a d) (λ k. freshMemory a d) m n r → answered r ≡ 0
+  begins : {m n : Memory} (a d : ℕ) (r : Answer) → Freshened a d m n r → answered r ≡ 0
       → Chain (record { adapter = a; domain = d }) n [] []
-  goesOn : {l : Limits} {m n : Memory} {xs ys : List Step} {rs ss : List ℕ} → Chain l m xs rs → Call m n ys ss → Chain l n (xs ++ ys) (rs ++ ss)
+  goesOn : {l : Limits} {m n : Memory} {xs ys : List Step} {rs ss : List ℕ} → Chain l m xs rs → Call m n ys ss
+      → Chain l n (xs ++ ys) (rs ++ ss)
 
 -- the reference model fed with the commands of a list
 abbrev pub modelOf : Limits → List Step → Model
@@ -88,5 +102,7 @@ pub record Demanded (l : Limits) (m : Memory) (steps : List Step) (rs : List ℕ
   pub demand : Demand3 l steps (read m)
   -- and part 4 follows from what a caller sees: no move remains, a sweep says so, or its budget was full
   pub none : (r : ℕ) → Remaining (read m) r → r ≡ 0 → Follows (read m) (modelOf l steps)
-  pub swept : (b : ℕ) (s : State) (used : ℕ) (more : Bool) → Sweep b s (read m) used more → more ≡ false → Follows (read m) (modelOf l steps)
-  pub full : (b : ℕ) (s : State) (used : ℕ) (more : Bool) → Sweep b s (read m) used more → mostMoves ≤ b → Follows (read m) (modelOf l steps)
+  pub swept : (b : ℕ) (s : State) (used : ℕ) (more : Bool) → Sweep b s (read m) used more → more ≡ false
+      → Follows (read m) (modelOf l steps)
+  pub full : (b : ℕ) (s : State) (used : ℕ) (more : Bool) → Sweep b s (read m) used more → mostMoves ≤ b
+      → Follows (read m) (modelOf l steps)

@@ -1,4 +1,5 @@
 -- What an accepted command of a device's life leaves in the words.
+-- The rules: RULES.md, "Commands".
 -- Assumes nothing.
 use Prim.Native.Nat.{ℕ}
 use mathlib.Core.Bool.{true, false}

@@ -1,4 +1,5 @@
 -- What a guest is shown: the contracts of the masks.
+-- The rules: RULES.md, "Guest masks".
 -- Assumes nothing.
 use mathlib.Core.Bool.{cond}
 use mathlib.Core.Path.{_≡_}

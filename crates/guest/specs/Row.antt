@@ -1,4 +1,5 @@
 -- What drops an adapter from a guest's masks, read from the driver bytes.
+-- The rules: RULES.md, "Guest masks".
 -- Assumes nothing.
 use Prim.Native.Nat.{ℕ, _+_, _*_}
 use mathlib.Core.Bool.{not, _&&_}

@@ -1,4 +1,5 @@
 -- What setting a host mask or the configuration leaves in memory.
+-- The rules: RULES.md, "Commands".
 -- Assumes nothing.
 use Prim.Native.Nat.{ℕ}
 use mathlib.Core.Bool.{not, _&&_}

@@ -1,4 +1,5 @@
 -- What a call of the listing does: its contract.
+-- The rules: RULES.md, "Listing".
 -- Assumes nothing.
 use Prim.Native.Nat.{ℕ}
 use mathlib.Core.Bool.{cond}

@@ -40,7 +40,8 @@ pub record Demand3 (l : Limits) (steps : List Step) (s : State) : Type 0 where
   -- 2: host masks, configuration and devices (ids, open marks, assigned masks) are the model's
   pub keeps : Kept s (kept (commandsOf steps) (start (l .adapter) (l .domain)))
   -- 3: no queue is usable by two guests, nor by a guest while a host driver holds it
-  pub apart : (p j q : ℕ) → p < slots → j < slots → q < queues → usable s (s .device p) q ≡ true → usable s (s .device j) q ≡ true → p ≡ j
+  pub apart : (p j q : ℕ) → p < slots → j < slots → q < queues → usable s (s .device p) q ≡ true → usable s (s .device j) q ≡ true
+      → p ≡ j
   pub notHost : (p q : ℕ) → p < slots → q < queues → usable s (s .device p) q ≡ true → s .driver q ≡ Host → ⊥
   -- 4: where no move is due, drivers and guest masks are the model's
   pub settled : Settled s → Follows s (kept (commandsOf steps) (start (l .adapter) (l .domain)))

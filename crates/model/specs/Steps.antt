@@ -1,4 +1,5 @@
 -- Lists of commands and moves, and what the service's rules make of them, step by step.
+-- The rules: RULES.md, "Reference model and demand 3".
 -- Assumes nothing.
 use Prim.Native.Nat.{ℕ, _+_, _*_, _%_}
 use mathlib.Core.List.{List, [], _∷_}

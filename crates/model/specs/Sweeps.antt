@@ -1,4 +1,5 @@
 -- A sweep in a list of demand 3.
+-- The rules: RULES.md, "Reference model and demand 3".
 -- Assumes nothing.
 use Prim.Native.Nat.{ℕ}
 use mathlib.Core.List.{List, map}

@@ -1,4 +1,5 @@
 -- The queues of a product, and what a test of whether two sets of queues meet says.
+-- The rules: RULES.md, "Commands".
 -- Assumes nothing.
 use Prim.Native.Nat.{ℕ, _<_}
 use mathlib.Core.Bool.{Bool, true}

@@ -1,4 +1,5 @@
 -- What a call does to the lent memory: the contracts of all functions that can refuse cite this one record.
+-- The rules: RULES.md, "Refusals".
 -- Assumes nothing.
 use Prim.Native.Nat.{ℕ}
 use mathlib.Core.List.{List}

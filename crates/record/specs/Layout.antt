@@ -1,5 +1,6 @@
 -- The record as it lies in memory: words for all but the drivers, and a byte for each queue's driver.
 -- Any contents are read: a limit above 255 as 255, a flag by not being 0, a driver byte beyond the three as unbound.
+-- The rules: RULES.md, "Record".
 -- Assumes nothing.
 use Prim.Native.Nat.{ℕ, zero, suc, _+_, _-_, _*_, _^_, min}
 use mathlib.Core.Bool.{Bool, true, false, cond, not, _&&_}

@@ -1,4 +1,5 @@
 -- What lent memory holds at a moment, so that a contract can say it of `words .entry` and `drivers .exit`.
+-- The rules: RULES.md, "Record".
 -- Assumes nothing.
 use Prim.Native.Nat.{ℕ}
 use mathlib.Core.List.{List}

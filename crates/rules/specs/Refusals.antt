@@ -22,4 +22,5 @@ Clash k n p h vs =
 -- a number of good text, within its limit, for a known device: the answer is a refusal exactly when there is such a queue
 unfoldable pub RefusedExactly : Kind → Id → List ℕ → Limits → HostMasks → Devices → Answer → Type 0
 RefusedExactly k i text l h vs r =
-    (n : ℕ) → numberText text ≡ granted n → slotOf i vs < slots → n ≤ limitOf k l → (answered r ≡ 0 → ⊥) ↔ Clash k n (slotOf i vs) h vs
+    (n : ℕ) → numberText text ≡ granted n → slotOf i vs < slots → n ≤ limitOf k l
+    → (answered r ≡ 0 → ⊥) ↔ Clash k n (slotOf i vs) h vs

@@ -1,4 +1,5 @@
 -- What carrying out a list of requests does: demand 3 as the contract of running code.
+-- The rules: RULES.md, "Reference model and demand 3".
 -- Assumes nothing.
 use Prim.Native.Nat.{ℕ, min}
 use mathlib.Core.Bool.{cond}
@@ -44,7 +45,7 @@ unfoldable pub leavesAll : List Request → Memory → Memory
 leavesAll [] m = m
 leavesAll (x ∷ xs) m = leavesAll xs (leaves x m)
 
--- a request's answer as a byte: a command's errno value, 0 where there is no refusal; a move's answer; whether moves remain after a sweep
+-- a request's answer as a byte: a command's errno value, 0 for no refusal; a move's answer; whether moves remain after a sweep
 unfoldable pub answerByte : Request → State → ℕ
 answerByte (command c) s = errnoOf (rule c s)
 answerByte (move a d) s = movedNumber (moveAnswer (queueOf a d) s)
@@ -63,7 +64,8 @@ pub record Stepped (x : Request) (m n : Memory) (r : ℕ) : Type 0 where
 
 -- a chain that comes to the memory m goes on to n, by calls that stand for these steps
 unfoldable pub GoesOn : Memory → Memory → List Step → Type 0
-GoesOn m n steps = (l : Limits) (xs : List Step) (rs : List ℕ) → Chain l m xs rs → (ss : List ℕ) × Chain l n (xs ++ steps) (rs ++ ss)
+GoesOn m n steps =
+    (l : Limits) (xs : List Step) (rs : List ℕ) → Chain l m xs rs → (ss : List ℕ) × Chain l n (xs ++ steps) (rs ++ ss)
 
 -- The requests in `bytes` are carried out on the memory m, which is left as n, with room for answers in `before`, which is left
 -- as `after`: as many requests as there is room for answers.
@@ -77,15 +79,21 @@ pub record CarriedOut (bytes before after : List ℕ) (m n : Memory) (r : ℕ) :
   -- it was left by calls
   pub calls : GoesOn m n (stepsOf (decode (length before) bytes) (read m))
 
+-- the list of demand 3 that a run of the requests in `bytes` comes to, and the answers to its commands
+abbrev pub listOf : Limits → List ℕ → List ℕ → List Step
+listOf l before bytes = stepsOf (decode (length before) bytes) (fresh l)
+
+abbrev pub saidTo : Limits → List ℕ → List ℕ → List ℕ
+saidTo l before bytes = Steps.answers (listOf l before bytes) (fresh l)
+
 -- A run of the requests in `bytes` on a fresh record of limits l, which is left in the memory m.
 pub record Run (l : Limits) (bytes before after : List ℕ) (m : Memory) (r : ℕ) : Type 0 where
   pub number : r ≡ length (decode (length before) bytes)
   pub answers : after ≡ answerBytes (decode (length before) bytes) (fresh l) ++ drop r before
   pub memory : m ≡ leavesAll (decode (length before) bytes) (freshMemory (l .adapter) (l .domain))
-  -- the memory was left by a chain of calls from a fresh record
-  pub chain : Chain l m (stepsOf (decode (length before) bytes) (fresh l)) (Steps.answers (stepsOf (decode (length before) bytes) (fresh l)) (fresh l))
-  -- so demand 3 holds of it
-  pub demand : Demanded l m (stepsOf (decode (length before) bytes) (fresh l)) (Steps.answers (stepsOf (decode (length before) bytes) (fresh l)) (fresh l))
+  -- the memory was left by a chain of calls from a fresh record, so demand 3 holds of it
+  pub chain : Chain l m (listOf l before bytes) (saidTo l before bytes)
+  pub demand : Demanded l m (listOf l before bytes) (saidTo l before bytes)
 
 -- the same of lent memory at entry and at exit
 abbrev pub StepsOnce : Lent → Lent → Lent → Lent → Lent → ℕ → Type 0

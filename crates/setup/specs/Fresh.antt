@@ -1,4 +1,5 @@
 -- Making a fresh record.
+-- The rules: RULES.md, "Record".
 -- Assumes nothing.
 use Prim.Native.Nat.{ℕ}
 use mathlib.Core.Bool.{cond, _&&_}
