@@ -29,14 +29,4 @@ returns-2 c = ((omega arith, omega arith), (c .before .loop .inv .2, λ l. absur
 
 pub comma-spec : {M : Type 1} → statement M
 comma-spec =
-    tie.close
-    (tie.spec
-    Inv-loop
-    μ-loop
-    loop-holds
-    (λ c. search needs)
-    returns
-    (λ c. search needs)
-    (λ c. search needs)
-    loop-again
-    returns-2)
+    tie.close (tie.spec Inv-loop μ-loop loop-holds (λ c. search needs) returns (λ c. search needs) (λ c. search needs) loop-again returns-2)

@@ -42,5 +42,4 @@ returns-3 c =
 
 pub one-more-spec : {M : Type 1} → statement M
 one-more-spec =
-    tie.close
-    (tie.spec (λ c κs. search needs) returns mul-next (λ c. search needs) add-next returns-2 (λ c. search needs) returns-3)
+    tie.close (tie.spec (λ c κs. search needs) returns mul-next (λ c. search needs) add-next returns-2 (λ c. search needs) returns-3)

@@ -34,13 +34,4 @@ returns c =
 
 pub count-spec : {M : Type 1} → statement M
 count-spec =
-    tie.close
-    (tie.spec
-    (λ c. search needs)
-    (λ c. search needs)
-    add-result
-    (λ c. search needs)
-    add-result-2
-    (λ c. search needs)
-    add-result-3
-    returns)
+    tie.close (tie.spec (λ c. search needs) (λ c. search needs) add-result (λ c. search needs) add-result-2 (λ c. search needs) add-result-3 returns)
