@@ -22,5 +22,4 @@ returns c =
 
 pub put-configuration-spec : {M : Type 1} → statement M
 put-configuration-spec =
-    tie.close
-    (tie.spec (λ c κs. search needs) (λ c κs. search needs) (λ c κs. search needs) (λ c κs. search needs) returns)
+    tie.close (tie.spec (λ c κs. search needs) (λ c κs. search needs) (λ c κs. search needs) (λ c κs. search needs) returns)
