@@ -89,37 +89,29 @@ same-place w i j p e =
 other-place : (w i j : ℕ) → eqb (j / w) (i / w) ≡ false → eqb j i ≡ false
 other-place w i j e = ne-eqb j i (λ q. eqb-false (j / w) (i / w) e (ap (λ (k : ℕ). k / w) q))
 
--- the digit of bit i set
+-- bit i of numbers put, by an operation with its digit that works digit by digit
+bit-put : (op : ℕ → ℕ → ℕ) (g : Bool → Bool → Bool) → ((a b k : ℕ) → digit (op a b) k ≡ g (digit b k) (digit a k)) → ((b : Bool) → g false b ≡ b)
+    → (w i j : ℕ) (xs : List ℕ) → 0 < w → i / w < length xs
+    → bitAt w (set xs (i / w) (op (getD xs (i / w) 0) (2 ^ (w - 1 - i % w)))) j ≡ g (eqb j i) (bitAt w xs j)
+unfolding bitAt
+bit-put op g law none w i j xs p h = set-bits w (i / w) (op (getD xs (i / w) 0) (2 ^ (w - 1 - i % w))) j xs h ∙ go (eqb (j / w) (i / w)) refl
+  where
+    go : (b : Bool) → eqb (j / w) (i / w) ≡ b
+        → cond b (digit (op (getD xs (i / w) 0) (2 ^ (w - 1 - i % w))) (w - 1 - j % w)) (bitAt w xs j) ≡ g (eqb j i) (bitAt w xs j)
+    go true e =
+        let q : j / w ≡ i / w = eqb-true (j / w) (i / w) e in
+        law (getD xs (i / w) 0) (2 ^ (w - 1 - i % w)) (w - 1 - j % w)
+        ∙ ap₂ g (digit-pow (w - 1 - i % w) (w - 1 - j % w) ∙ same-place w i j p q) (ap (λ (k : ℕ). digit (getD xs k 0) (w - 1 - j % w)) (sym q))
+    go false e = sym (ap (λ (b : Bool). g b (bitAt w xs j)) (other-place w i j e) ∙ none (bitAt w xs j))
+
+-- bit i set, and bit i cleared
 pub bit-set : (w i j : ℕ) (xs : List ℕ) → 0 < w → i / w < length xs
     → bitAt w (set xs (i / w) (bitOr (getD xs (i / w) 0) (2 ^ (w - 1 - i % w)))) j ≡ (eqb j i || bitAt w xs j)
-unfolding bitAt
-bit-set w i j xs p h = set-bits w (i / w) (bitOr (getD xs (i / w) 0) (2 ^ (w - 1 - i % w))) j xs h ∙ go (eqb (j / w) (i / w)) refl
-  where
-    go : (b : Bool) → eqb (j / w) (i / w) ≡ b
-        → cond b (digit (bitOr (getD xs (i / w) 0) (2 ^ (w - 1 - i % w))) (w - 1 - j % w)) (bitAt w xs j) ≡ (eqb j i || bitAt w xs j)
-    go true e =
-        let q : j / w ≡ i / w = eqb-true (j / w) (i / w) e in
-        digit-or (getD xs (i / w) 0) (2 ^ (w - 1 - i % w)) (w - 1 - j % w)
-        ∙ ap₂ _||_ (ap (λ (k : ℕ). digit (getD xs k 0) (w - 1 - j % w)) (sym q)) (digit-pow (w - 1 - i % w) (w - 1 - j % w) ∙ same-place w i j p q)
-        ∙ or-comm (bitAt w xs j) (eqb j i)
-    go false e = ap (λ (b : Bool). b || bitAt w xs j) (sym (other-place w i j e))
+bit-set = bit-put bitOr _||_ (λ a b k. digit-or a b k ∙ or-comm (digit a k) (digit b k)) (λ b. refl)
 
--- the digit of bit i cleared
 pub bit-clear : (w i j : ℕ) (xs : List ℕ) → 0 < w → i / w < length xs
     → bitAt w (set xs (i / w) (bitXor (getD xs (i / w) 0) (bitAnd (getD xs (i / w) 0) (2 ^ (w - 1 - i % w))))) j ≡ (not (eqb j i) && bitAt w xs j)
-unfolding bitAt
-bit-clear w i j xs p h =
-    set-bits w (i / w) (bitXor (getD xs (i / w) 0) (bitAnd (getD xs (i / w) 0) (2 ^ (w - 1 - i % w)))) j xs h ∙ go (eqb (j / w) (i / w)) refl
-  where
-    go : (b : Bool) → eqb (j / w) (i / w) ≡ b
-        → cond b (digit (bitXor (getD xs (i / w) 0) (bitAnd (getD xs (i / w) 0) (2 ^ (w - 1 - i % w)))) (w - 1 - j % w)) (bitAt w xs j)
-        ≡ (not (eqb j i) && bitAt w xs j)
-    go true e =
-        let q : j / w ≡ i / w = eqb-true (j / w) (i / w) e in
-        digit-clear (getD xs (i / w) 0) (2 ^ (w - 1 - i % w)) (w - 1 - j % w)
-        ∙ ap₂ (λ (a b : Bool). a && not b) (ap (λ (k : ℕ). digit (getD xs k 0) (w - 1 - j % w)) (sym q)) (digit-pow (w - 1 - i % w) (w - 1 - j % w) ∙ same-place w i j p q)
-        ∙ and-comm (bitAt w xs j) (not (eqb j i))
-    go false e = ap (λ (b : Bool). not b && bitAt w xs j) (sym (other-place w i j e))
+bit-clear = bit-put (λ a b. bitXor a (bitAnd a b)) (λ a b. not a && b) (λ a b k. digit-clear a b k ∙ and-comm (digit a k) (not (digit b k))) (λ b. refl)
 
 -- the bits of numbers that are made one by one from those of two lists, by an operation that works digit by digit
 pub op-bits : (w n : ℕ) (xs ys zs : List ℕ) (op : ℕ → ℕ → ℕ) (g : Bool → Bool → Bool)

@@ -3,7 +3,7 @@
 use Prim.Native.Nat.{ℕ, zero, suc, _+_, _≤_, _<_}
 use native.Mathlib.Omega.{arith}
 use mathlib.Core.Bool.{Bool, true, false, cond}
-use mathlib.Core.List.{List, [], _∷_}
+use mathlib.Core.List.{List}
 use mathlib.Core.Path.{_≡_, refl, sym, _∙_}
 use lib.Dec.{eqb}
 use lib.ListN.{length, getD, set, replicate, length-set}
@@ -11,7 +11,7 @@ use lib.Seq.{getD-set-same, getD-set-other, ext-getD}
 use borrow.Author.Tests.{eqb-true, eqb-false}
 use Rattle.mask.specs.Bits.{bits}
 use Rattle.rules.specs.State.{slots}
-use Rattle.record.specs.Layout.{wordCount, zeros, noId, noConfiguration, apmaskAt, aqmaskAt, configAt, typesAt, deviceAt, putFour, putDevice, putTypes, putConfig, clearSlots, freshWords}
+use Rattle.record.specs.Layout.{wordCount, zeros, noConfiguration, apmaskAt, aqmaskAt, configAt, typesAt, deviceAt, putFour, putDevice, putTypes, putConfig, clearSlots, freshWords}
 use Rattle.record.proofs.Laws.{cond-below, allOnes, fresh-length, past-ten, zero-at}
 
 -- the first n of the words ws are those of a fresh record

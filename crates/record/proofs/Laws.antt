@@ -8,7 +8,7 @@ use mathlib.Core.Path.{_≡_, refl, sym, ap, ap₂, _∙_, fun-ext}
 use mathlib.Core.Logic.{_≢_, _⊎_, inl, inr}
 use mathlib.Core.Bool.{Bool, true, false, cond}
 use mathlib.Core.List.{List, [], _∷_}
-use lib.ListN.{length, getD, set, replicate, length-set, length-replicate, List·getD-eq-default}
+use lib.ListN.{length, getD, set, replicate, length-set, List·getD-eq-default}
 use lib.Seq.{getD-set-same, getD-set-other, getD-append-add, set-getD, ext-getD}
 use lib.Dec.{eqb, ltb}
 use borrow.Author.Tests.{ltb-true, ltb-false, eqb-true, eqb-false, lt-ltb, le-ltb}
@@ -127,10 +127,7 @@ put-get ws k m h e =
 
 pub put-same : (ws : List ℕ) (k : ℕ) → putFour ws k (four ws k) ≡ ws
 unfolding putFour
-put-same ws k =
-    ap (λ (l : List ℕ). set (set (set l (k + 1) (getD ws (k + 1) 0)) (k + 2) (getD ws (k + 2) 0)) (k + 3) (getD ws (k + 3) 0)) (set-getD ws k 0)
-    ∙ ap (λ (l : List ℕ). set (set l (k + 2) (getD ws (k + 2) 0)) (k + 3) (getD ws (k + 3) 0)) (set-getD ws (k + 1) 0)
-    ∙ ap (λ (l : List ℕ). set l (k + 3) (getD ws (k + 3) 0)) (set-getD ws (k + 2) 0) ∙ set-getD ws (k + 3) 0
+put-same ws k = simp set-getD
 
 -- ---- words that differ in a stretch
 
@@ -272,12 +269,6 @@ unbind-at qs gone (suc n) q l h = go (gone n) refl (eq-or-lt-of-le (le-of-suc-le
     go true e (inr s) rest = getD-set-other (unbind qs gone n) n q 0 0 (omega arith) ∙ rest s
     go false e (inr s) rest = rest s
 
--- ---- lengths
-
-length-chosen : (t : Bool) (us ws : List ℕ) → length us ≡ length ws → length (cond t us ws) ≡ length ws
-length-chosen true us ws e = e
-length-chosen false us ws e = refl
-
 -- the words of a slot that is given: the first four, then three masks
 abbrev firstFour : Bool → Id → List ℕ
 firstFour t i = cond t 1 0 ∷ 0 ∷ i .hi ∷ i .lo ∷ []
@@ -293,14 +284,6 @@ slot3 ws p t i = putFour (slot2 ws p t i) (deviceAt p + 8) zeros
 
 abbrev slotWords : List ℕ → ℕ → Bool → Id → List ℕ
 slotWords ws p t i = putFour (slot3 ws p t i) (deviceAt p + 12) zeros
-
-pub device-length : (ws : List ℕ) (p : ℕ) (t : Bool) (i : Id) → length (putDevice ws p t i) ≡ length ws
-unfolding putDevice
-device-length ws p t i = length-chosen (ltb p slots) (slotWords ws p t i) ws (simp put-length)
-
-pub config-length : (ws : List ℕ) (c : Configuration) → length (putConfig ws c) ≡ length ws
-unfolding putConfig
-config-length ws c = types-length _ _ 256 ∙ simp put-length
 
 -- ---- the words of masks
 

@@ -10,12 +10,6 @@ use Rattle.record.proofs.Laws.{cond-below, cond-past, kind-small}
 use Rattle.record.proofs.put_numbers.Statement.{statement}
 use Rattle.record.proofs.put_numbers.Tie as tie
 
-add-put-mask-2 : tie.Need-add-put-mask-2
-add-put-mask-2 c = omega (arith, kind-small (c .before .before .before .args .kind))
-
-put-mask-requires : tie.Need-put-mask-requires
-put-mask-requires c κs = omega (arith, kind-small (c .before .before .before .args .kind))
-
 returns : tie.Need-returns
 unfolding putNumbers
 returns c =
@@ -31,4 +25,6 @@ returns-2 c =
 
 pub put-numbers-spec : {M : Type 1} → statement M
 put-numbers-spec =
-    tie.close (tie.spec (λ c. search needs) (λ c. search needs) (λ c κs. search needs) add-put-mask-2 put-mask-requires returns returns-2)
+    tie.close
+    (tie.spec (λ c. search needs) (λ c. search needs) (λ c κs. search needs) (λ c. omega (arith, kind-small (c .before .before .before .args .kind)))
+    (λ c κs. omega (arith, kind-small (c .before .before .before .args .kind))) returns returns-2)
