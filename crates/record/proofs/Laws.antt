@@ -273,17 +273,9 @@ unbind-at qs gone (suc n) q l h = go (gone n) refl (eq-or-lt-of-le (le-of-suc-le
 abbrev firstFour : Bool → Id → List ℕ
 firstFour t i = cond t 1 0 ∷ 0 ∷ i .hi ∷ i .lo ∷ []
 
-abbrev slot1 : List ℕ → ℕ → Bool → Id → List ℕ
-slot1 ws p t i = putFour ws (deviceAt p) (firstFour t i)
-
-abbrev slot2 : List ℕ → ℕ → Bool → Id → List ℕ
-slot2 ws p t i = putFour (slot1 ws p t i) (deviceAt p + 4) zeros
-
-abbrev slot3 : List ℕ → ℕ → Bool → Id → List ℕ
-slot3 ws p t i = putFour (slot2 ws p t i) (deviceAt p + 8) zeros
-
 abbrev slotWords : List ℕ → ℕ → Bool → Id → List ℕ
-slotWords ws p t i = putFour (slot3 ws p t i) (deviceAt p + 12) zeros
+slotWords ws p t i =
+    putFour (putFour (putFour (putFour ws (deviceAt p) (firstFour t i)) (deviceAt p + 4) zeros) (deviceAt p + 8) zeros) (deviceAt p + 12) zeros
 
 -- ---- the words of masks
 
@@ -335,19 +327,13 @@ module _ (ws qs m : List ℕ) (long : length ws ≡ wordCount) (four-words : len
   unfolding hostIn maskAt
   read-apmask =
       let o = off-four ws apmaskAt m in
-      let p = ap (bitAt 64) (put-get ws apmaskAt m (omega arith) four-words) in
-      let q = mask-off o aqmaskAt (omega arith) in
-      read-host qs (record { apmask = bitAt 64 m; aqmask = hostIn ws .aqmask }) (off-wider 2 8 o (omega arith) (omega arith))
-      (λ i. record { apmask = p i; aqmask = q i })
+      read-host qs _ (off-wider 2 8 o (omega arith) (omega arith)) (simp (put-get ws apmaskAt m (omega arith) four-words, four-off o aqmaskAt (omega arith)))
 
   pub read-aqmask : stateIn (putFour ws aqmaskAt m) qs ≡ withHost (record { apmask = hostIn ws .apmask; aqmask = bitAt 64 m }) (stateIn ws qs)
   unfolding hostIn maskAt
   read-aqmask =
       let o = off-four ws aqmaskAt m in
-      let p = mask-off o apmaskAt (omega arith) in
-      let q = ap (bitAt 64) (put-get ws aqmaskAt m (omega arith) four-words) in
-      read-host qs (record { apmask = hostIn ws .apmask; aqmask = bitAt 64 m }) (off-wider 2 8 o (omega arith) (omega arith))
-      (λ i. record { apmask = p i; aqmask = q i })
+      read-host qs _ (off-wider 2 8 o (omega arith) (omega arith)) (simp (put-get ws aqmaskAt m (omega arith) four-words, four-off o apmaskAt (omega arith)))
 
 -- words that differ at one slot hold the state with that device replaced
 pub read-device : {ws vs : List ℕ} (qs : List ℕ) (p : ℕ) (v : Device) → p < slots → Off (deviceAt p) 16 ws vs → deviceIn vs p ≡ v
@@ -381,27 +367,22 @@ module _ (ws : List ℕ) (qs : List ℕ) (p : ℕ) (long : length ws ≡ wordCou
   unfolding withNumbers
   device-numbers k m vs o e = go k o e
     where
-      first : (j : ℕ) → Off j 4 ws vs → deviceAt p + 4 ≤ j → (deviceThere vs p .present ≡ deviceThere ws p .present) × (deviceThere vs p .isOpen ≡ deviceThere ws p .isOpen) × (deviceThere vs p .id ≡ deviceThere ws p .id)
-      first j o h = (
-        ap flag (o .at (deviceAt p) (omega arith)),
-        ap flag (o .at (deviceAt p + 1) (omega arith)),
-        same-id (o .at (deviceAt p + 2) (omega arith)) (o .at (deviceAt p + 3) (omega arith)),
-      )
+      first : (j : ℕ) → Off j 4 ws vs → deviceAt p + 4 ≤ j → deviceThere vs p ≡ record {
+        present = deviceThere ws p .present;
+        isOpen = deviceThere ws p .isOpen;
+        id = deviceThere ws p .id;
+        adapters = deviceThere vs p .adapters;
+        domains = deviceThere vs p .domains;
+        controls = deviceThere vs p .controls;
+      }
+      first j o h =
+          simp (o .at (deviceAt p) (omega arith), o .at (deviceAt p + 1) (omega arith), o .at (deviceAt p + 2) (omega arith), o .at (deviceAt p + 3) (omega arith))
 
       go : (k : Kind) → Off (deviceAt p + kindAt k) 4 ws vs → maskAt vs (deviceAt p + kindAt k) ≡ bitAt 64 m
           → deviceThere vs p ≡ withNumbers k (bitAt 64 m) (deviceThere ws p)
-      go Adapter o e =
-          let (a, b, c) = first (deviceAt p + 4) o (omega arith) in
-          same-device (deviceThere vs p) (withNumbers Adapter (bitAt 64 m) (deviceThere ws p)) a b c e (mask-off o (deviceAt p + 8) (omega arith))
-          (mask-off o (deviceAt p + 12) (omega arith))
-      go Domain o e =
-          let (a, b, c) = first (deviceAt p + 8) o (omega arith) in
-          same-device (deviceThere vs p) (withNumbers Domain (bitAt 64 m) (deviceThere ws p)) a b c (mask-off o (deviceAt p + 4) (omega arith)) e
-          (mask-off o (deviceAt p + 12) (omega arith))
-      go Control o e =
-          let (a, b, c) = first (deviceAt p + 12) o (omega arith) in
-          same-device (deviceThere vs p) (withNumbers Control (bitAt 64 m) (deviceThere ws p)) a b c (mask-off o (deviceAt p + 4) (omega arith))
-          (mask-off o (deviceAt p + 8) (omega arith)) e
+      go Adapter o e = first (deviceAt p + 4) o (omega arith) ∙ simp (e, mask-off o (deviceAt p + 8) (omega arith), mask-off o (deviceAt p + 12) (omega arith))
+      go Domain o e = first (deviceAt p + 8) o (omega arith) ∙ simp (e, mask-off o (deviceAt p + 4) (omega arith), mask-off o (deviceAt p + 12) (omega arith))
+      go Control o e = first (deviceAt p + 12) o (omega arith) ∙ simp (e, mask-off o (deviceAt p + 4) (omega arith), mask-off o (deviceAt p + 8) (omega arith))
 
   pub read-numbers : (k : Kind) (m : List ℕ) → length m ≡ 4 → stateIn (putNumbers ws p k m) qs ≡ withDevice p (withNumbers k (bitAt 64 m) (deviceIn ws p)) (stateIn ws qs)
   unfolding putNumbers maskAt
@@ -433,43 +414,31 @@ module _ (ws : List ℕ) (qs : List ℕ) (p : ℕ) (long : length ws ≡ wordCou
       same-device (deviceThere (slotWords ws p t i) p) (givenDevice t i) (ap (λ (l : List ℕ). flag (getD l 0 0)) first ∙ flag-of t)
       (ap (λ (l : List ℕ). flag (getD l 1 0)) first ∙ flag-of false) (same-id (ap (λ (l : List ℕ). getD l 2 0) first) (ap (λ (l : List ℕ). getD l 3 0) first))
       (ap (bitAt 64)
-      (put-other s3 (k + 12) zeros (k + 4) (omega arith) ∙ put-other s2 (k + 8) zeros (k + 4) (omega arith)
-      ∙ put-get s1 (k + 4) zeros (simp put-length (omega arith)) refl)
+      (put-other _ (k + 12) zeros (k + 4) (omega arith) ∙ put-other _ (k + 8) zeros (k + 4) (omega arith)
+      ∙ put-get _ (k + 4) zeros (simp put-length (omega arith)) refl)
       ∙ zero-bits)
-      (ap (bitAt 64) (put-other s3 (k + 12) zeros (k + 8) (omega arith) ∙ put-get s2 (k + 8) zeros (simp put-length (omega arith)) refl) ∙ zero-bits)
-      (ap (bitAt 64) (put-get s3 (k + 12) zeros (simp put-length (omega arith)) refl) ∙ zero-bits)
+      (ap (bitAt 64) (put-other _ (k + 12) zeros (k + 8) (omega arith) ∙ put-get _ (k + 8) zeros (simp put-length (omega arith)) refl) ∙ zero-bits)
+      (ap (bitAt 64) (put-get _ (k + 12) zeros (simp put-length (omega arith)) refl) ∙ zero-bits)
     where
       k : ℕ
       k = deviceAt p
 
-      s1 : List ℕ
-      s1 = slot1 ws p t i
-
-      s2 : List ℕ
-      s2 = slot2 ws p t i
-
-      s3 : List ℕ
-      s3 = slot3 ws p t i
-
       first : four (slotWords ws p t i) k ≡ firstFour t i
       first =
-          put-other s3 (k + 12) zeros k (omega arith) ∙ put-other s2 (k + 8) zeros k (omega arith)
-          ∙ put-other s1 (k + 4) zeros k (omega arith) ∙ put-get ws k (firstFour t i) (omega arith) refl
+          put-other _ (k + 12) zeros k (omega arith) ∙ put-other _ (k + 8) zeros k (omega arith) ∙ put-other _ (k + 4) zeros k (omega arith)
+          ∙ put-get ws k (firstFour t i) (omega arith) refl
 
   read-given : (t : Bool) (i : Id) → stateIn (putDevice ws p t i) qs ≡ withDevice p (givenDevice t i) (stateIn ws qs)
   unfolding putDevice
   read-given t i =
       ap (λ (vs : List ℕ). stateIn vs qs) (cond-below p slots (slotWords ws p t i) ws there)
       ∙ read-device qs p (givenDevice t i) there
-      (off-then
-      (off-then
-      (off-then (within ws (deviceAt p) (firstFour t i) (omega arith) (omega arith)) (within (slot1 ws p t i) (deviceAt p + 4) zeros (omega arith) (omega arith)))
-      (within (slot2 ws p t i) (deviceAt p + 8) zeros (omega arith) (omega arith)))
-      (within (slot3 ws p t i) (deviceAt p + 12) zeros (omega arith) (omega arith)))
+      (off-then (off-then (off-then (off-wider (deviceAt p) 16 (off-four ws (deviceAt p) (firstFour t i)) (omega arith) (omega arith)) (within _ 4 zeros (omega arith)))
+      (within _ 8 zeros (omega arith))) (within _ 12 zeros (omega arith)))
       (device-there (slotWords ws p t i) p there ∙ device-given t i)
     where
-      within : (us : List ℕ) (k : ℕ) (m : List ℕ) → deviceAt p ≤ k → k + 4 ≤ deviceAt p + 16 → Off (deviceAt p) 16 us (putFour us k m)
-      within us k m l h = off-wider (deviceAt p) 16 (off-four us k m) l h
+      within : (us : List ℕ) (k : ℕ) (m : List ℕ) → k ≤ 12 → Off (deviceAt p) 16 us (putFour us (deviceAt p + k) m)
+      within us k m l = off-wider (deviceAt p) 16 (off-four us (deviceAt p + k) m) (omega arith) (omega arith)
 
   pub read-new : (i : Id) → stateIn (putDevice ws p true i) qs ≡ withDevice p (newDevice i) (stateIn ws qs)
   unfolding newDevice
