@@ -1,6 +1,6 @@
 -- The record's parts, read after they are put; the words of a mask; a command that is carried out.
 -- Assumes nothing.
-use Prim.Native.Nat.{ℕ, zero, suc, _+_, _-_, _*_, _≤_, _<_, min, max}
+use Prim.Native.Nat.{ℕ, zero, suc, _+_, _-_, _≤_, _<_, min, max}
 use native.Mathlib.Nat.{zero-add, le-of-suc-le-suc, not-suc-le-zero, eq-or-lt-of-le, min-eq-left}
 use native.Mathlib.Numerals.{add-one}
 use native.Mathlib.Omega.{arith}
@@ -14,9 +14,8 @@ use lib.Dec.{eqb, ltb}
 use borrow.Author.Tests.{ltb-true, ltb-false, eqb-true, eqb-false, lt-ltb, le-ltb}
 use Rattle.errno.specs.declared.Errno.{Errno}
 use Rattle.errno.specs.Outcome.{Outcome, granted, refused}
-use Rattle.mask.specs.Bits.{Sized, Bits, bits, bitAt, digit, noBits, allBits, numbers}
-use Rattle.mask.proofs.Bit.{digit-zero, digit-ones}
-use Rattle.mask.proofs.Laws.{each-bits, past-end, numbers-words, numbers-bits, numbers-of-bits, below-four}
+use Rattle.mask.specs.Bits.{Sized, Bits, bits, bitAt, noBits, allBits, numbers}
+use Rattle.mask.proofs.Laws.{zero-bits, one-bits, past-end, numbers-words, numbers-bits, numbers-of-bits, below-four}
 use Rattle.rules.specs.declared.Answer.{Answer}
 use Rattle.rules.specs.declared.Answer.the-variants.{Done, Refused}
 use Rattle.rules.specs.declared.Kind.{Kind}
@@ -279,26 +278,9 @@ slotWords ws p t i =
 
 -- ---- the words of masks
 
--- what holds of a word holds of each of four like it
-each-like : (P : ℕ → Type 0) (x : ℕ) → P x → (q : ℕ) → q < 4 → P (getD (x ∷ x ∷ x ∷ x ∷ []) q 0)
-each-like P x h = below-four (λ q. P (getD (x ∷ x ∷ x ∷ x ∷ []) q 0)) h h h h
-
-zero-bits : bitAt 64 zeros ≡ noBits
-unfolding noBits
-zero-bits =
-    fun-ext (each-bits 64 4 zeros noBits (omega arith) refl (λ q j l _. each-like (λ x. digit x (63 - j) ≡ false) 0 (digit-zero (63 - j)) q l) (λ i l. refl))
-
+-- four words with all bits set
 abbrev pub allOnes : List ℕ
 allOnes = ones ∷ ones ∷ ones ∷ ones ∷ []
-
-one-bits : bitAt 64 allOnes ≡ allBits
-unfolding allBits
-one-bits =
-    fun-ext
-    (each-bits 64 4 allOnes allBits (omega arith) refl
-    (λ q j l h. each-like (λ x. digit x (63 - j) ≡ ltb (63 - j) 64) ones (digit-ones 64 (63 - j)) q l ∙ lt-ltb (63 - j) 64 (omega arith)
-    ∙ sym (lt-ltb (q * 64 + j) 256 (omega arith)))
-    (λ i l. le-ltb i 256 (omega arith)))
 
 -- the mask of words is the words
 pub words-of : {m : List ℕ} → Sized 64 4 m → wordsOf (bitAt 64 m) ≡ m
