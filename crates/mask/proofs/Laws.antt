@@ -155,19 +155,15 @@ some-elim (suc n) m e = go (someBelow n m) refl (some-elim n m)
 pub some-exactly : (n : ℕ) (m : Bits) → (someBelow n m ≡ true) ↔ ((i : ℕ) × (i < n) × (m i ≡ true))
 some-exactly n m = (some-elim n m, λ w. some-intro n m (w .0) (w .1) (w .2))
 
+never-true : (b : Bool) → (b ≡ true → ⊥) → b ≡ false
+never-true true h = absurd (h refl)
+never-true false h = refl
+
 pub some-none : (n : ℕ) (m : Bits) → someBelow n m ≡ false → (i : ℕ) → i < n → m i ≡ false
-some-none n m e i h = go (m i) refl
-  where
-    go : (b : Bool) → m i ≡ b → m i ≡ false
-    go true q = absurd (true≢false (sym (some-intro n m i h q) ∙ e))
-    go false q = q
+some-none n m e i h = never-true (m i) (λ q. true≢false (sym (some-intro n m i h q) ∙ e))
 
 pub none-some : (n : ℕ) (m : Bits) → ((i : ℕ) → i < n → m i ≡ false) → someBelow n m ≡ false
-none-some n m none = go (someBelow n m) refl
-  where
-    go : (b : Bool) → someBelow n m ≡ b → someBelow n m ≡ false
-    go true q = let (i, l, h) = some-elim n m q in absurd (true≢false (sym h ∙ none i l))
-    go false q = q
+none-some n m none = never-true (someBelow n m) (λ q. let (i, l, h) = some-elim n m q in true≢false (sym h ∙ none i l))
 
 pub some-cong : (n : ℕ) (m m′ : Bits) → ((i : ℕ) → i < n → m i ≡ m′ i) → someBelow n m ≡ someBelow n m′
 unfolding someBelow
@@ -304,11 +300,8 @@ pub numbers-words : (w n : ℕ) (m : Bits) (k : ℕ) → Sized w n (numbers w n 
 numbers-words w n m k = record { long = numbers-long w n m k; small = λ q. go q (ltb q n) refl }
   where
     go : (q : ℕ) (b : Bool) → ltb q n ≡ b → getD (numbers w n m k) q 0 < 2 ^ w
-    go q true e = subst (λ (x : ℕ). x < 2 ^ w) (sym (numbers-at w n m k q (ltb-true q n e))) (number-small w m (k + q * w))
-    go q false e =
-        subst (λ (x : ℕ). x < 2 ^ w)
-        (sym (List·getD-eq-default (numbers w n m k) 0 {n = q} (subst (λ (x : ℕ). x ≤ q) (sym (numbers-long w n m k)) (ltb-false q n e))))
-        (pow-pos w)
+    go q true e = rw (numbers-at w n m k q (ltb-true q n e)) (number-small w m (k + q * w))
+    go q false e = rw (List·getD-eq-default (numbers w n m k) 0 {n = q} (omega (arith, numbers-long w n m k, ltb-false q n e))) (pow-pos w)
 
 pub numbers-bits : (w n : ℕ) (m : Bits) (k i : ℕ) → 0 < w → i < n * w → bitAt w (numbers w n m k) i ≡ m (k + i)
 unfolding bitAt

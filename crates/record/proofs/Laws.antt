@@ -481,10 +481,8 @@ module _ (ws : List ℕ) (c : Configuration) (long : length ws ≡ wordCount) (w
   off-config : Off 10 268 ws (putConfig ws c)
   unfolding putConfig
   off-config =
-      off-then
-      (off-then (off-then (wide ws 10 (c .adapters .words) (omega arith) (omega arith)) (wide (putFour ws 10 (c .adapters .words)) 14 (c .domains .words) (omega arith) (omega arith)))
-      (wide (putFour (putFour ws 10 (c .adapters .words)) 14 (c .domains .words)) 18 (c .controls .words) (omega arith) (omega arith)))
-      (off-wider 10 268 (off-types (maskWords ws c) (typeOf c) 256) (omega arith) (omega arith))
+      off-then (off-then (off-then (wide ws 10 (c .adapters .words) (omega arith) (omega arith)) (wide _ 14 (c .domains .words) (omega arith) (omega arith)))
+      (wide _ 18 (c .controls .words) (omega arith) (omega arith))) (off-wider 10 268 (off-types (maskWords ws c) (typeOf c) 256) (omega arith) (omega arith))
     where
       wide : (us : List ℕ) (k : ℕ) (m : List ℕ) → 10 ≤ k → k + 4 ≤ 278 → Off 10 268 us (putFour us k m)
       wide us k m l h = off-wider 10 268 (off-four us k m) l (omega arith)
@@ -502,13 +500,11 @@ module _ (ws : List ℕ) (c : Configuration) (long : length ws ≡ wordCount) (w
   unfolding configIn stored maskAt putConfig
   config-put =
       let o = off-types (maskWords ws c) (typeOf c) 256 in
-      let s1 = putFour ws 10 (c .adapters .words) in
-      let s2 = putFour s1 14 (c .domains .words) in
-      let p = four-off o 10 (omega arith) ∙ put-other s2 18 (c .controls .words) 10 (omega arith) ∙ put-other s1 14 (c .domains .words) 10 (omega arith)
+      let p = four-off o 10 (omega arith) ∙ put-other _ 18 (c .controls .words) 10 (omega arith) ∙ put-other _ 14 (c .domains .words) 10 (omega arith)
       ∙ put-get ws 10 (c .adapters .words) (omega arith) (wa .long) in
-      let q = four-off o 14 (omega arith) ∙ put-other s2 18 (c .controls .words) 14 (omega arith)
-      ∙ put-get s1 14 (c .domains .words) (simp put-length (omega arith)) (wd .long) in
-      let r = four-off o 18 (omega arith) ∙ put-get s2 18 (c .controls .words) (simp put-length (omega arith)) (wc .long) in
+      let q = four-off o 14 (omega arith) ∙ put-other _ 18 (c .controls .words) 14 (omega arith)
+      ∙ put-get _ 14 (c .domains .words) (simp put-length (omega arith)) (wd .long) in
+      let r = four-off o 18 (omega arith) ∙ put-get _ 18 (c .controls .words) (simp put-length (omega arith)) (wc .long) in
       let t = fun-ext config-types in
       λ i. record { adapters = bitAt 64 (p i); domains = bitAt 64 (q i); controls = bitAt 64 (r i); types = t i }
 
