@@ -1,7 +1,7 @@
 -- The binary digits of a number: of the word operations, of powers of two, and of a number put together from two.
 -- Assumes nothing.
 use Prim.Native.Nat.{ℕ, zero, suc, _+_, _-_, _*_, _/_, _%_, _^_, _≤_, _<_, zero-le, suc-le-suc, min, max}
-use native.Mathlib.Nat.{mod-lt, le-of-suc-le-suc, not-suc-le-zero, zero-lt-suc, zero-div, div-one, div-eq-of-lt, lt-of-lt-of-le, mul-add-div-right, mul-add-mod-self-right, mul-assoc, add-zero, one-mul, le-refl, div-add-mod'}
+use native.Mathlib.Nat.{mod-lt, zero-lt-suc, zero-div, div-one, div-eq-of-lt, lt-of-lt-of-le, mul-add-div-right, mul-add-mod-self-right, mul-assoc, add-zero, one-mul, le-refl, div-add-mod'}
 use native.Mathlib.Numerals.{add-one, one-add}
 use native.Mathlib.Omega.{arith}
 use mathlib.Core.Path.{_≡_, refl, sym, ap, ap₂, subst, _∙_}
@@ -29,15 +29,14 @@ module _ (op f : ℕ → ℕ → ℕ) (g : Bool → Bool → Bool)
       ∙ ap (λ (x : ℕ). eqb x 1) (mul-add-mod-self-right (op (a / 2 ^ k / 2) (b / 2 ^ k / 2)) 2 (f (a / 2 ^ k % 2) (b / 2 ^ k % 2)))
       ∙ test (a / 2 ^ k % 2) (b / 2 ^ k % 2) (mod-lt (a / 2 ^ k) two-pos) (mod-lt (b / 2 ^ k) two-pos)
 
-module _ (P : ℕ → ℕ → Type 0) (p00 : P 0 0) (p01 : P 0 1) (p10 : P 1 0) (p11 : P 1 1) where
-  four : (x y : ℕ) → x < 2 → y < 2 → P x y
-  four zero zero hx hy = p00
-  four zero (suc zero) hx hy = p01
-  four (suc zero) zero hx hy = p10
-  four (suc zero) (suc zero) hx hy = p11
-  four zero (suc (suc y)) hx hy = absurd (not-suc-le-zero (le-of-suc-le-suc (le-of-suc-le-suc hy)))
-  four (suc zero) (suc (suc y)) hx hy = absurd (not-suc-le-zero (le-of-suc-le-suc (le-of-suc-le-suc hy)))
-  four (suc (suc x)) y hx hy = absurd (not-suc-le-zero (le-of-suc-le-suc (le-of-suc-le-suc hx)))
+-- what holds of 0 and of 1
+two : (P : ℕ → Type 0) → P 0 → P 1 → (x : ℕ) → x < 2 → P x
+two P a b zero h = a
+two P a b (suc zero) h = b
+two P a b (suc (suc x)) h = absurd (omega arith)
+
+four : (P : ℕ → ℕ → Type 0) → P 0 0 → P 0 1 → P 1 0 → P 1 1 → (x y : ℕ) → x < 2 → y < 2 → P x y
+four P a b c d x y hx hy = two (λ (n : ℕ). P n y) (two (P 0) a b y hy) (two (P 1) c d y hy) x hx
 
 pub digit-and : (a b k : ℕ) → digit (bitAnd a b) k ≡ (digit a k && digit b k)
 digit-and =
@@ -175,12 +174,8 @@ half-small x w h = shr-lt w 1 (subst (λ (n : ℕ). x < 2 ^ n) (sym (add-one w))
 -- the lowest digit
 pub digit-mod : (x : ℕ) → cond (digit x 0) 1 0 ≡ x % 2
 unfolding digit
-digit-mod x = ap (λ (y : ℕ). cond (eqb (y % 2) 1) 1 0) (div-one x) ∙ go (x % 2) (mod-lt x two-pos)
-  where
-    go : (y : ℕ) → y < 2 → cond (eqb y 1) 1 0 ≡ y
-    go zero h = refl
-    go (suc zero) h = refl
-    go (suc (suc y)) h = absurd (not-suc-le-zero (le-of-suc-le-suc (le-of-suc-le-suc h)))
+digit-mod x =
+    ap (λ (y : ℕ). cond (eqb (y % 2) 1) 1 0) (div-one x) ∙ two (λ (y : ℕ). cond (eqb y 1) 1 0 ≡ y) refl refl (x % 2) (mod-lt x two-pos)
 
 -- a number with one digit more, c, below
 pub digit-snoc : (h : ℕ) (c : Bool) (k : ℕ) → digit (h * 2 + cond c 1 0) (suc k) ≡ digit h k

@@ -3,11 +3,11 @@
 use Prim.Native.Nat.{ℕ, zero, suc, _+_, _-_, _*_, _/_, _%_, _^_, _≤_, _<_, zero-le, suc-le-suc}
 use native.Mathlib.Nat.{le-refl, le-of-suc-le-suc, not-suc-le-zero, eq-or-lt-of-le, add-zero, add-suc, zero-add, add-assoc, add-comm, pow-suc, mod-lt, div-add-mod', le-div-iff-mul-le, div-lt-iff-lt-mul}
 use native.Mathlib.Omega.{arith}
-use mathlib.Core.Path.{_≡_, refl, sym, ap, ap₂, subst, _∙_}
+use mathlib.Core.Path.{_≡_, refl, sym, ap, ap₂, subst, fun-ext, _∙_}
 use mathlib.Core.Logic.{_⊎_, inl, inr, _↔_}
 use mathlib.Core.Bool.{Bool, true, false, cond, not, _&&_, _||_, or-true, or-false, or-comm, or-assoc, and-comm, true≢false}
 use mathlib.Core.List.{List, [], _∷_, map}
-use lib.ListN.{length, getD, set, List·getD-eq-default}
+use lib.ListN.{length, getD, set, replicate, getD-replicate, List·getD-eq-default}
 use lib.Seq.{ext-getD, getD-set-same, getD-set-other}
 use lib.Dec.{eqb, ltb}
 use lib.Arith.{lt-one, digits-lt, digits-div, digits-mod}
@@ -15,14 +15,14 @@ use lib.Pow.{pow-pos}
 use lib.Bits.{bitAnd, bitOr, bitXor, or-add-and, and-le-l, and-le-r}
 use lib.Count.{ones, onesIn, ones-step}
 use borrow.Author.Needs.{needs, elem-fits-field}
-use borrow.Author.Tests.{ltb-true, ltb-false, eqb-true, eqb-false, eq-eqb, ne-eqb}
+use borrow.Author.Tests.{ltb-true, ltb-false, eqb-true, eqb-false, eq-eqb, ne-eqb, lt-ltb, le-ltb}
 use mir.Val.{Val}
 use mir.Syntax.{w64}
 use denote.Laws.{Is}
 use Rattle.mask.specs.declared.Mask.{Mask}
 use Rattle.mask.proofs.Mask.{the-row}
-use Rattle.mask.specs.Bits.{Sized, Bits, digit, bitAt, bits, someBelow, countBelow, number, numbers}
-use Rattle.mask.proofs.Bit.{digit-or, digit-clear, digit-zero, digit-pow, digit-mod, digit-half, half-small, digit-snoc, digit-last, same-digits, some-digit}
+use Rattle.mask.specs.Bits.{Sized, Bits, digit, bitAt, bits, noBits, allBits, included, excluded, someBelow, countBelow, number, numbers}
+use Rattle.mask.proofs.Bit.{digit-or, digit-clear, digit-zero, digit-ones, one-shl, digit-pow, digit-mod, digit-half, half-small, digit-snoc, digit-last, same-digits, some-digit}
 
 -- two tests that follow from each other are one
 pub same-test : {a b : Bool} → (a ≡ true → b ≡ true) → (b ≡ true → a ≡ true) → a ≡ b
@@ -89,37 +89,20 @@ same-place w i j p e =
 other-place : (w i j : ℕ) → eqb (j / w) (i / w) ≡ false → eqb j i ≡ false
 other-place w i j e = ne-eqb j i (λ q. eqb-false (j / w) (i / w) e (ap (λ (k : ℕ). k / w) q))
 
--- the digit of bit i set
-pub bit-set : (w i j : ℕ) (xs : List ℕ) → 0 < w → i / w < length xs
-    → bitAt w (set xs (i / w) (bitOr (getD xs (i / w) 0) (2 ^ (w - 1 - i % w)))) j ≡ (eqb j i || bitAt w xs j)
+-- bit i of numbers put, by an operation with its digit that works digit by digit
+bit-put : (op : ℕ → ℕ → ℕ) (g : Bool → Bool → Bool) → ((a b k : ℕ) → digit (op a b) k ≡ g (digit b k) (digit a k)) → ((b : Bool) → g false b ≡ b)
+    → (w i j : ℕ) (xs : List ℕ) → 0 < w → i / w < length xs
+    → bitAt w (set xs (i / w) (op (getD xs (i / w) 0) (2 ^ (w - 1 - i % w)))) j ≡ g (eqb j i) (bitAt w xs j)
 unfolding bitAt
-bit-set w i j xs p h = set-bits w (i / w) (bitOr (getD xs (i / w) 0) (2 ^ (w - 1 - i % w))) j xs h ∙ go (eqb (j / w) (i / w)) refl
+bit-put op g law none w i j xs p h = set-bits w (i / w) (op (getD xs (i / w) 0) (2 ^ (w - 1 - i % w))) j xs h ∙ go (eqb (j / w) (i / w)) refl
   where
     go : (b : Bool) → eqb (j / w) (i / w) ≡ b
-        → cond b (digit (bitOr (getD xs (i / w) 0) (2 ^ (w - 1 - i % w))) (w - 1 - j % w)) (bitAt w xs j) ≡ (eqb j i || bitAt w xs j)
+        → cond b (digit (op (getD xs (i / w) 0) (2 ^ (w - 1 - i % w))) (w - 1 - j % w)) (bitAt w xs j) ≡ g (eqb j i) (bitAt w xs j)
     go true e =
         let q : j / w ≡ i / w = eqb-true (j / w) (i / w) e in
-        digit-or (getD xs (i / w) 0) (2 ^ (w - 1 - i % w)) (w - 1 - j % w)
-        ∙ ap₂ _||_ (ap (λ (k : ℕ). digit (getD xs k 0) (w - 1 - j % w)) (sym q)) (digit-pow (w - 1 - i % w) (w - 1 - j % w) ∙ same-place w i j p q)
-        ∙ or-comm (bitAt w xs j) (eqb j i)
-    go false e = ap (λ (b : Bool). b || bitAt w xs j) (sym (other-place w i j e))
-
--- the digit of bit i cleared
-pub bit-clear : (w i j : ℕ) (xs : List ℕ) → 0 < w → i / w < length xs
-    → bitAt w (set xs (i / w) (bitXor (getD xs (i / w) 0) (bitAnd (getD xs (i / w) 0) (2 ^ (w - 1 - i % w))))) j ≡ (not (eqb j i) && bitAt w xs j)
-unfolding bitAt
-bit-clear w i j xs p h =
-    set-bits w (i / w) (bitXor (getD xs (i / w) 0) (bitAnd (getD xs (i / w) 0) (2 ^ (w - 1 - i % w)))) j xs h ∙ go (eqb (j / w) (i / w)) refl
-  where
-    go : (b : Bool) → eqb (j / w) (i / w) ≡ b
-        → cond b (digit (bitXor (getD xs (i / w) 0) (bitAnd (getD xs (i / w) 0) (2 ^ (w - 1 - i % w)))) (w - 1 - j % w)) (bitAt w xs j)
-        ≡ (not (eqb j i) && bitAt w xs j)
-    go true e =
-        let q : j / w ≡ i / w = eqb-true (j / w) (i / w) e in
-        digit-clear (getD xs (i / w) 0) (2 ^ (w - 1 - i % w)) (w - 1 - j % w)
-        ∙ ap₂ (λ (a b : Bool). a && not b) (ap (λ (k : ℕ). digit (getD xs k 0) (w - 1 - j % w)) (sym q)) (digit-pow (w - 1 - i % w) (w - 1 - j % w) ∙ same-place w i j p q)
-        ∙ and-comm (bitAt w xs j) (not (eqb j i))
-    go false e = ap (λ (b : Bool). not b && bitAt w xs j) (sym (other-place w i j e))
+        law (getD xs (i / w) 0) (2 ^ (w - 1 - i % w)) (w - 1 - j % w)
+        ∙ ap₂ g (digit-pow (w - 1 - i % w) (w - 1 - j % w) ∙ same-place w i j p q) (ap (λ (k : ℕ). digit (getD xs k 0) (w - 1 - j % w)) (sym q))
+    go false e = sym (ap (λ (b : Bool). g b (bitAt w xs j)) (other-place w i j e) ∙ none (bitAt w xs j))
 
 -- the bits of numbers that are made one by one from those of two lists, by an operation that works digit by digit
 pub op-bits : (w n : ℕ) (xs ys zs : List ℕ) (op : ℕ → ℕ → ℕ) (g : Bool → Bool → Bool)
@@ -172,19 +155,15 @@ some-elim (suc n) m e = go (someBelow n m) refl (some-elim n m)
 pub some-exactly : (n : ℕ) (m : Bits) → (someBelow n m ≡ true) ↔ ((i : ℕ) × (i < n) × (m i ≡ true))
 some-exactly n m = (some-elim n m, λ w. some-intro n m (w .0) (w .1) (w .2))
 
+never-true : (b : Bool) → (b ≡ true → ⊥) → b ≡ false
+never-true true h = absurd (h refl)
+never-true false h = refl
+
 pub some-none : (n : ℕ) (m : Bits) → someBelow n m ≡ false → (i : ℕ) → i < n → m i ≡ false
-some-none n m e i h = go (m i) refl
-  where
-    go : (b : Bool) → m i ≡ b → m i ≡ false
-    go true q = absurd (true≢false (sym (some-intro n m i h q) ∙ e))
-    go false q = q
+some-none n m e i h = never-true (m i) (λ q. true≢false (sym (some-intro n m i h q) ∙ e))
 
 pub none-some : (n : ℕ) (m : Bits) → ((i : ℕ) → i < n → m i ≡ false) → someBelow n m ≡ false
-none-some n m none = go (someBelow n m) refl
-  where
-    go : (b : Bool) → someBelow n m ≡ b → someBelow n m ≡ false
-    go true q = let (i, l, h) = some-elim n m q in absurd (true≢false (sym h ∙ none i l))
-    go false q = q
+none-some n m none = never-true (someBelow n m) (λ q. let (i, l, h) = some-elim n m q in true≢false (sym h ∙ none i l))
 
 pub some-cong : (n : ℕ) (m m′ : Bits) → ((i : ℕ) → i < n → m i ≡ m′ i) → someBelow n m ≡ someBelow n m′
 unfolding someBelow
@@ -321,11 +300,8 @@ pub numbers-words : (w n : ℕ) (m : Bits) (k : ℕ) → Sized w n (numbers w n 
 numbers-words w n m k = record { long = numbers-long w n m k; small = λ q. go q (ltb q n) refl }
   where
     go : (q : ℕ) (b : Bool) → ltb q n ≡ b → getD (numbers w n m k) q 0 < 2 ^ w
-    go q true e = subst (λ (x : ℕ). x < 2 ^ w) (sym (numbers-at w n m k q (ltb-true q n e))) (number-small w m (k + q * w))
-    go q false e =
-        subst (λ (x : ℕ). x < 2 ^ w)
-        (sym (List·getD-eq-default (numbers w n m k) 0 {n = q} (subst (λ (x : ℕ). x ≤ q) (sym (numbers-long w n m k)) (ltb-false q n e))))
-        (pow-pos w)
+    go q true e = rw (numbers-at w n m k q (ltb-true q n e)) (number-small w m (k + q * w))
+    go q false e = rw (List·getD-eq-default (numbers w n m k) 0 {n = q} (omega (arith, numbers-long w n m k, ltb-false q n e))) (pow-pos w)
 
 pub numbers-bits : (w n : ℕ) (m : Bits) (k i : ℕ) → 0 < w → i < n * w → bitAt w (numbers w n m k) i ≡ m (k + i)
 unfolding bitAt
@@ -354,12 +330,45 @@ below-four P a b c d (suc (suc (suc (suc q)))) h = absurd (omega arith)
 
 -- the bits of a mask that is made word by word from two
 pub mask-op : (x y : Mask) (op : ℕ → ℕ → ℕ) (g : Bool → Bool → Bool)
-    → ((a b k : ℕ) → digit (op a b) k ≡ g (digit a k) (digit b k)) → g false false ≡ false
-    → Sized 64 4 (x .words) → Sized 64 4 (y .words) → (i : ℕ)
-    → bitAt 64 (map (λ q. op (getD (x .words) q 0) (getD (y .words) q 0)) (0 ∷ 1 ∷ 2 ∷ 3 ∷ [])) i ≡ g (bits x i) (bits y i)
+    → ((a b k : ℕ) → digit (op a b) k ≡ g (digit a k) (digit b k)) → g false false ≡ false → {vs us : List Val} → Is the-row x vs → Is the-row y us
+    → bitAt 64 (map (λ q. op (getD (x .words) q 0) (getD (y .words) q 0)) (0 ∷ 1 ∷ 2 ∷ 3 ∷ [])) ≡ (λ i. g (bits x i) (bits y i))
 mask-op x y op g law none hx hy =
-    op-bits 64 4 (x .words) (y .words) zs op g law none (hx .long) (hy .long) refl
-    (below-four (λ q. getD zs q 0 ≡ op (getD (x .words) q 0) (getD (y .words) q 0)) refl refl refl refl)
+    fun-ext
+    (op-bits 64 4 (x .words) (y .words) zs op g law none (mask-words x hx .long) (mask-words y hy .long) refl
+    (below-four (λ q. getD zs q 0 ≡ op (getD (x .words) q 0) (getD (y .words) q 0)) refl refl refl refl))
   where
     zs : List ℕ
     zs = map (λ q. op (getD (x .words) q 0) (getD (y .words) q 0)) (0 ∷ 1 ∷ 2 ∷ 3 ∷ [])
+
+-- a mask with bit i put, by an operation with `1 << (63 - i % 64)`
+module _ (m : Mask) {vs : List Val} (h : Is the-row m vs) (i : ℕ) (l : i < 256) where
+  mask-put : (op : ℕ → ℕ → ℕ) (g : Bool → Bool → Bool) → ((a b k : ℕ) → digit (op a b) k ≡ g (digit b k) (digit a k)) → ((b : Bool) → g false b ≡ b)
+      → bitAt 64 (set (m .words) (i / 64) (op (getD (m .words) (i / 64) 0) (1 * 2 ^ (63 - i % 64) % 2 ^ 64))) ≡ (λ j. g (eqb j i) (bits m j))
+  mask-put op g law none =
+      rw (one-shl 64 (63 - i % 64) (omega arith))
+      (fun-ext (λ j. bit-put op g law none 64 i j (m .words) (omega arith) (omega (arith, mask-words m h .long))))
+
+  pub mask-set : bitAt 64 (set (m .words) (i / 64) (bitOr (getD (m .words) (i / 64) 0) (1 * 2 ^ (63 - i % 64) % 2 ^ 64))) ≡ included i (bits m)
+  unfolding included
+  mask-set = mask-put bitOr _||_ (λ a b k. digit-or a b k ∙ or-comm (digit a k) (digit b k)) (λ b. refl)
+
+  pub mask-clear : bitAt 64 (set (m .words) (i / 64) (bitXor (getD (m .words) (i / 64) 0) (bitAnd (getD (m .words) (i / 64) 0) (1 * 2 ^ (63 - i % 64) % 2 ^ 64)))) ≡ excluded i (bits m)
+  unfolding excluded
+  mask-clear = mask-put (λ a b. bitXor a (bitAnd a b)) (λ a b. not a && b) (λ a b k. digit-clear a b k ∙ and-comm (digit a k) (not (digit b k))) (λ b. refl)
+
+-- the bits of words that are all zeros, and all ones
+pub zero-bits : bitAt 64 (replicate 4 0) ≡ noBits
+unfolding noBits
+zero-bits =
+    fun-ext
+    (each-bits 64 4 (replicate 4 0) noBits (omega arith) refl
+    (λ q j l _. ap (λ (x : ℕ). digit x (63 - j)) (getD-replicate 4 q 0 0 l) ∙ digit-zero (63 - j)) (λ i l. refl))
+
+pub one-bits : bitAt 64 (replicate 4 (2 ^ 64 - 1)) ≡ allBits
+unfolding allBits
+one-bits =
+    fun-ext
+    (each-bits 64 4 (replicate 4 (2 ^ 64 - 1)) allBits (omega arith) refl
+    (λ q j l m. ap (λ (x : ℕ). digit x (63 - j)) (getD-replicate 4 q (2 ^ 64 - 1) 0 l) ∙ digit-ones 64 (63 - j)
+    ∙ lt-ltb (63 - j) 64 (omega arith) ∙ sym (lt-ltb (q * 64 + j) 256 (omega arith)))
+    (λ i l. le-ltb i 256 (omega arith)))

@@ -4,14 +4,14 @@ use Prim.Native.Nat.{ℕ, zero, suc, _+_, _-_, _/_, _%_, _<_, _≤_}
 use native.Mathlib.Nat.{eq-or-lt-of-le}
 use native.Mathlib.Numerals.{add-one}
 use native.Mathlib.Omega.{arith}
-use mathlib.Core.Bool.{Bool, true, false, cond, not, _&&_, _||_, or-false, true≢false}
+use mathlib.Core.Bool.{Bool, true, false, cond, not, _&&_, _||_, or-false}
 use mathlib.Core.List.{List, [], _∷_, _++_, map, map-append, append-nil}
 use mathlib.Core.Logic.{_⊎_, inl, inr}
 use mathlib.Core.Path.{_≡_, refl, sym, ap, _∙_, fun-ext}
 use lib.ListN.{length, getD, take, drop, length-drop, length-map, take-append-drop, drop-of-length-le}
 use lib.Seq.{length-take-le, take-all, drop-cons, take-suc, getD-take, getD-drop, drop-drop}
 use lib.Dec.{ltb, eqb, eqb·zero-suc, eqb·suc-zero, eqb·suc-suc}
-use borrow.Author.Tests.{le-leb, lt-leb, ne-eqb}
+use borrow.Author.Tests.{le-leb, lt-leb, ne-eqb, not-true, not-false}
 use Rattle.errno.specs.declared.Errno.{Errno}
 use Rattle.errno.specs.Outcome.{granted, refused}
 use Rattle.errno.specs.declared.Errno.the-variants.{Einval}
@@ -103,19 +103,11 @@ parts-at s at e h l n f = go (eq-or-lt-of-le l)
 module _ (r : MaskRead) where
   pub outcome-bad : not (r .good) ≡ true → outcome r ≡ refused Einval
   unfolding outcome
-  outcome-bad e = go (r .good) e
-    where
-      go : (b : Bool) → not b ≡ true → cond b (granted (bits (r .mask))) (refused Einval) ≡ refused Einval
-      go true e = absurd (true≢false (sym e))
-      go false e = refl
+  outcome-bad e = rw (not-true (r .good) e)
 
   pub outcome-good : not (r .good) ≡ false → outcome r ≡ granted (bits (r .mask))
   unfolding outcome
-  outcome-good e = go (r .good) e
-    where
-      go : (b : Bool) → not b ≡ false → cond b (granted (bits (r .mask))) (refused Einval) ≡ granted (bits (r .mask))
-      go true e = refl
-      go false e = absurd (true≢false e)
+  outcome-good e = rw (not-false (r .good) e)
 
 -- an item that is granted goes on with the rest
 pub items-good : (m n : Bits) (p : List ℕ) (ps : List (List ℕ)) → item m p ≡ granted n → items m (p ∷ ps) ≡ items n ps

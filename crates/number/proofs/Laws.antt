@@ -4,7 +4,7 @@ use Prim.Native.Nat.{ℕ, suc, _+_, _-_, _*_, _<_, _≤_}
 use native.Mathlib.Nat.{le-mul-of-pos-right}
 use native.Mathlib.Numerals.{add-one}
 use native.Mathlib.Omega.{arith}
-use mathlib.Core.Bool.{Bool, true, false, cond, _&&_}
+use mathlib.Core.Bool.{Bool, true, false, cond, _&&_, and-false}
 use mathlib.Core.List.{List, [], _∷_}
 use mathlib.Core.Logic.{_⊎_, inl, inr}
 use mathlib.Core.Path.{_≡_, refl}
@@ -16,33 +16,10 @@ use Rattle.errno.specs.Outcome.{Outcome, granted, refused}
 use Rattle.errno.specs.declared.Errno.the-variants.{Einval}
 use Rattle.number.specs.Text.{digitOf, body, digitsAfter, anyBase, atMost, numberRule}
 
-right : (a b : Bool) → a && b ≡ true → b ≡ true
-right true b e = e
-right false b e = cc
-
-cond-le : (b : Bool) (x : ℕ) {y n : ℕ} → (b ≡ true → x ≤ n) → y ≤ n → cond b x y ≤ n
-cond-le true x h k = h refl
-cond-le false x h k = k
-
-up-to : (a c z : ℕ) → leb a c && leb c z ≡ true → c ≤ z
-up-to a c z e = leb-true c z (right (leb a c) (leb c z) e)
-
-pub and-false : (b : Bool) → b && false ≡ false
-and-false true = refl
-and-false false = refl
-
 -- a byte outside a range of bytes
 pub outside : (a c z : ℕ) → (c < a) ⊎ (z < c) → leb a c && leb c z ≡ false
 outside a c z (inl h) = rw (lt-leb a c h)
 outside a c z (inr h) = rw (lt-leb c z h) (and-false (leb a c))
-
--- a byte that is no digit of any base counts as 16
-pub digit-le : (c : ℕ) → digitOf c ≤ 16
-unfolding digitOf
-digit-le c =
-    cond-le (leb 48 c && leb c 57) (c - 48) (λ e. omega (arith, up-to 48 c 57 e))
-    (cond-le (leb 97 c && leb c 102) (c - 87) (λ e. omega (arith, up-to 97 c 102 e))
-    (cond-le (leb 65 c && leb c 70) (c - 55) (λ e. omega (arith, up-to 65 c 70 e)) (omega arith)))
 
 -- what passes the limit is at most the limit
 pub within : (limit : ℕ) (o : Outcome ℕ) {v : ℕ} → atMost limit o ≡ granted v → v ≤ limit

@@ -1,24 +1,21 @@
 -- The record's parts, read after they are put; the words of a mask; a command that is carried out.
 -- Assumes nothing.
-use Prim.Native.Nat.{ℕ, zero, suc, _+_, _-_, _*_, _≤_, _<_, min}
+use Prim.Native.Nat.{ℕ, zero, suc, _+_, _-_, _≤_, _<_, min, max}
 use native.Mathlib.Nat.{zero-add, le-of-suc-le-suc, not-suc-le-zero, eq-or-lt-of-le, min-eq-left}
 use native.Mathlib.Numerals.{add-one}
 use native.Mathlib.Omega.{arith}
 use mathlib.Core.Path.{_≡_, refl, sym, ap, ap₂, _∙_, fun-ext}
 use mathlib.Core.Logic.{_≢_, _⊎_, inl, inr}
-use mathlib.Core.Bool.{Bool, true, false, cond, not}
+use mathlib.Core.Bool.{Bool, true, false, cond}
 use mathlib.Core.List.{List, [], _∷_}
-use lib.ListN.{length, getD, set, replicate, length-set, length-replicate, List·getD-eq-default}
-use lib.Seq.{getD-set-same, getD-set-other, set-getD, ext-getD}
+use lib.ListN.{length, getD, set, replicate, length-set, List·getD-eq-default}
+use lib.Seq.{getD-set-same, getD-set-other, getD-append-add, set-getD, ext-getD}
 use lib.Dec.{eqb, ltb}
 use borrow.Author.Tests.{ltb-true, ltb-false, eqb-true, eqb-false, lt-ltb, le-ltb}
 use Rattle.errno.specs.declared.Errno.{Errno}
-use Rattle.errno.specs.declared.Errno.the-variants.{Enoent, Ebusy, Eexist, Enodev, Einval, Enospc, Eaddrinuse, Eaddrnotavail}
-use Rattle.errno.specs.Errno.{numberOf}
 use Rattle.errno.specs.Outcome.{Outcome, granted, refused}
-use Rattle.mask.specs.Bits.{Sized, Bits, bits, bitAt, digit, noBits, allBits, numbers}
-use Rattle.mask.proofs.Bit.{digit-zero, digit-ones}
-use Rattle.mask.proofs.Laws.{each-bits, past-end, numbers-words, numbers-bits, numbers-of-bits, below-four}
+use Rattle.mask.specs.Bits.{Sized, Bits, bits, bitAt, noBits, allBits, numbers}
+use Rattle.mask.proofs.Laws.{zero-bits, one-bits, past-end, numbers-words, numbers-bits, numbers-of-bits, below-four}
 use Rattle.rules.specs.declared.Answer.{Answer}
 use Rattle.rules.specs.declared.Answer.the-variants.{Done, Refused}
 use Rattle.rules.specs.declared.Kind.{Kind}
@@ -80,14 +77,9 @@ kind-small Control = omega arith
 
 -- ---- four words
 
--- a word apart from four
-apart-from : (j k i : ℕ) → (j < k) ⊎ (k + 4 ≤ j) → i < 4 → j ≢ k + i
-apart-from j k i (inl h) l = omega arith
-apart-from j k i (inr h) l = omega arith
-
-apart-first : (j k : ℕ) → (j < k) ⊎ (k + 4 ≤ j) → j ≢ k
-apart-first j k (inl h) = omega arith
-apart-first j k (inr h) = omega arith
+-- the m words from word k on lie apart from the n words from word a on: one ends where the other begins, or before
+abbrev pub Apart : (a n k m : ℕ) → Type 0
+Apart a n k m = min (k + m) (a + n) ≤ max k a
 
 -- the first one, two and three of four words put
 abbrev pub put1 : List ℕ → ℕ → List ℕ → List ℕ
@@ -99,13 +91,11 @@ put2 ws k m = set (put1 ws k m) (k + 1) (getD m 1 0)
 abbrev pub put3 : List ℕ → ℕ → List ℕ → List ℕ
 put3 ws k m = set (put2 ws k m) (k + 2) (getD m 2 0)
 
-pub word-other : (ws : List ℕ) (k : ℕ) (m : List ℕ) (j : ℕ) → (j < k) ⊎ (k + 4 ≤ j) → getD (putFour ws k m) j 0 ≡ getD ws j 0
+pub word-other : (ws : List ℕ) (k : ℕ) (m : List ℕ) (j : ℕ) → Apart k 4 j 1 → getD (putFour ws k m) j 0 ≡ getD ws j 0
 unfolding putFour
 word-other ws k m j h =
-    getD-set-other (put3 ws k m) (k + 3) j (getD m 3 0) 0 (apart-from j k 3 h (omega arith))
-    ∙ getD-set-other (put2 ws k m) (k + 2) j (getD m 2 0) 0 (apart-from j k 2 h (omega arith))
-    ∙ getD-set-other (put1 ws k m) (k + 1) j (getD m 1 0) 0 (apart-from j k 1 h (omega arith))
-    ∙ getD-set-other ws k j (getD m 0 0) 0 (apart-first j k h)
+    getD-set-other (put3 ws k m) (k + 3) j (getD m 3 0) 0 (omega arith) ∙ getD-set-other (put2 ws k m) (k + 2) j (getD m 2 0) 0 (omega arith)
+    ∙ getD-set-other (put1 ws k m) (k + 1) j (getD m 1 0) 0 (omega arith) ∙ getD-set-other ws k j (getD m 0 0) 0 (omega arith)
 
 pub put-length : (ws : List ℕ) (k : ℕ) (m : List ℕ) → length (putFour ws k m) ≡ length ws
 unfolding putFour
@@ -136,23 +126,16 @@ put-get ws k m h e =
 
 pub put-same : (ws : List ℕ) (k : ℕ) → putFour ws k (four ws k) ≡ ws
 unfolding putFour
-put-same ws k =
-    ap (λ (l : List ℕ). set (set (set l (k + 1) (getD ws (k + 1) 0)) (k + 2) (getD ws (k + 2) 0)) (k + 3) (getD ws (k + 3) 0)) (set-getD ws k 0)
-    ∙ ap (λ (l : List ℕ). set (set l (k + 2) (getD ws (k + 2) 0)) (k + 3) (getD ws (k + 3) 0)) (set-getD ws (k + 1) 0)
-    ∙ ap (λ (l : List ℕ). set l (k + 3) (getD ws (k + 3) 0)) (set-getD ws (k + 2) 0) ∙ set-getD ws (k + 3) 0
+put-same ws k = simp set-getD
 
 -- ---- words that differ in a stretch
 
 -- the words vs are the words ws but for the n words from word a on
 pub record Off (a n : ℕ) (ws vs : List ℕ) : Type 0 where
-  pub at : (j : ℕ) → (j < a) ⊎ (a + n ≤ j) → getD vs j 0 ≡ getD ws j 0
+  pub at : (j : ℕ) → Apart a n j 1 → getD vs j 0 ≡ getD ws j 0
 
 pub off-wider : {a n : ℕ} {ws vs : List ℕ} (b m : ℕ) → Off a n ws vs → b ≤ a → a + n ≤ b + m → Off b m ws vs
-off-wider {a} {n} {ws} {vs} b m o h l = record { at = λ j s. o .at j (go j s) }
-  where
-    go : (j : ℕ) → (j < b) ⊎ (b + m ≤ j) → (j < a) ⊎ (a + n ≤ j)
-    go j (inl p) = inl (omega arith)
-    go j (inr p) = inr (omega arith)
+off-wider b m o h l = record { at = λ j s. o .at j (omega arith) }
 
 pub off-then : {a n : ℕ} {ws vs us : List ℕ} → Off a n ws vs → Off a n vs us → Off a n ws us
 off-then o r = record { at = λ j s. r .at j s ∙ o .at j s }
@@ -161,11 +144,7 @@ pub off-four : (ws : List ℕ) (k : ℕ) (m : List ℕ) → Off k 4 ws (putFour 
 off-four ws k m = record { at = λ j h. word-other ws k m j h }
 
 pub off-set : (ws : List ℕ) (k v : ℕ) → Off k 1 ws (set ws k v)
-off-set ws k v = record { at = λ j h. getD-set-other ws k j v 0 (go j h) }
-  where
-    go : (j : ℕ) → (j < k) ⊎ (k + 1 ≤ j) → j ≢ k
-    go j (inl h) = omega arith
-    go j (inr h) = omega arith
+off-set ws k v = record { at = λ j h. getD-set-other ws k j v 0 (omega arith) }
 
 same-device : (v w : Device) → v .present ≡ w .present → v .isOpen ≡ w .isOpen → v .id ≡ w .id → v .adapters ≡ w .adapters
     → v .domains ≡ w .domains → v .controls ≡ w .controls → v ≡ w
@@ -177,24 +156,10 @@ same-id p q = λ i. record { hi = p i; lo = q i }
 same-state : (s t : State) → s .limits ≡ t .limits → s .host ≡ t .host → s .config ≡ t .config → s .device ≡ t .device → s .driver ≡ t .driver → s ≡ t
 same-state s t a b c d e = λ i. record { limits = a i; host = b i; config = c i; device = d i; driver = e i }
 
--- the m words from word k on lie apart from the n words from word a on
-abbrev pub Apart : (a n k m : ℕ) → Type 0
-Apart a n k m = (k + m ≤ a) ⊎ (a + n ≤ k)
-
 -- what is read apart from the stretch is as it was
 module _ {a n : ℕ} {ws vs : List ℕ} (o : Off a n ws vs) where
-  part : (k m : ℕ) → Apart a n k m → (j l : ℕ) → k ≤ j → j + l ≤ k + m → Apart a n j l
-  part k m (inl h) j l p q = inl (omega arith)
-  part k m (inr h) j l p q = inr (omega arith)
-
-  word-off : (k m : ℕ) → Apart a n k m → (j : ℕ) → k ≤ j → j < k + m → getD vs j 0 ≡ getD ws j 0
-  word-off k m (inl h) j p q = o .at j (inl (omega arith))
-  word-off k m (inr h) j p q = o .at j (inr (omega arith))
-
   pub four-off : (k : ℕ) → Apart a n k 4 → four vs k ≡ four ws k
-  four-off k h =
-      four-path (word-off k 4 h k (omega arith) (omega arith)) (word-off k 4 h (k + 1) (omega arith) (omega arith))
-      (word-off k 4 h (k + 2) (omega arith) (omega arith)) (word-off k 4 h (k + 3) (omega arith) (omega arith))
+  four-off k h = four-path (o .at k (omega arith)) (o .at (k + 1) (omega arith)) (o .at (k + 2) (omega arith)) (o .at (k + 3) (omega arith))
 
   pub mask-off : (k : ℕ) → Apart a n k 4 → maskAt vs k ≡ maskAt ws k
   unfolding maskAt
@@ -202,55 +167,40 @@ module _ {a n : ℕ} {ws vs : List ℕ} (o : Off a n ws vs) where
 
   pub limits-off : 2 ≤ a → limitsIn vs ≡ limitsIn ws
   unfolding limitsIn
-  limits-off h =
-      let p = o .at 0 (inl (omega arith)) in
-      let q = o .at 1 (inl (omega arith)) in
-      λ i. record { adapter = min (p i) 255; domain = min (q i) 255 }
+  limits-off h = simp (o .at 0 (omega arith), o .at 1 (omega arith))
 
   pub host-off : 10 ≤ a → hostIn vs ≡ hostIn ws
   unfolding hostIn
-  host-off h =
-      let p = mask-off apmaskAt (inl (omega arith)) in
-      let q = mask-off aqmaskAt (inl (omega arith)) in
-      λ i. record { apmask = p i; aqmask = q i }
+  host-off h = simp (mask-off apmaskAt (omega arith), mask-off aqmaskAt (omega arith))
 
   pub config-off : Apart a n 10 268 → configIn vs ≡ configIn ws
   unfolding configIn
   config-off h =
-      let p = mask-off 10 (part 10 268 h 10 4 (omega arith) (omega arith)) in
-      let q = mask-off 14 (part 10 268 h 14 4 (omega arith) (omega arith)) in
-      let r = mask-off 18 (part 10 268 h 18 4 (omega arith) (omega arith)) in
+      let p = mask-off 10 (omega arith) in
+      let q = mask-off 14 (omega arith) in
+      let r = mask-off 18 (omega arith) in
       let t = fun-ext (λ j. types j (ltb j 256) refl) in
       λ i. record { adapters = p i; domains = q i; controls = r i; types = t i }
     where
       types : (j : ℕ) (b : Bool) → ltb j 256 ≡ b → cond b (getD vs (typesAt + j) 0) 0 ≡ cond b (getD ws (typesAt + j) 0) 0
-      types j true e = let s : j < 256 = ltb-true j 256 e in word-off 10 268 h (typesAt + j) (omega arith) (omega arith)
+      types j true e = let s : j < 256 = ltb-true j 256 e in o .at (typesAt + j) (omega arith)
       types j false e = refl
 
   pub device-off : (p : ℕ) → Apart a n (deviceAt p) 16 → deviceIn vs p ≡ deviceIn ws p
-  device-off p h = go (ltb p slots) refl
+  unfolding deviceIn
+  device-off p h = ap (λ (v : Device). cond (ltb p slots) v noDevice) there
     where
       k : ℕ
       k = deviceAt p
 
-      word : (j : ℕ) → k ≤ j → j < k + 16 → getD vs j 0 ≡ getD ws j 0
-      word j l u = word-off k 16 h j l u
-
-      mask : (j : ℕ) → k ≤ j → j + 4 ≤ k + 16 → maskAt vs j ≡ maskAt ws j
-      mask j l u = mask-off j (part k 16 h j 4 l u)
-
       there : deviceThere vs p ≡ deviceThere ws p
       there =
-          same-device (deviceThere vs p) (deviceThere ws p) (ap flag (word k (omega arith) (omega arith))) (ap flag (word (k + 1) (omega arith) (omega arith)))
-          (same-id (word (k + 2) (omega arith) (omega arith)) (word (k + 3) (omega arith) (omega arith))) (mask (k + 4) (omega arith) (omega arith))
-          (mask (k + 8) (omega arith) (omega arith)) (mask (k + 12) (omega arith) (omega arith))
-
-      go : (b : Bool) → ltb p slots ≡ b → deviceIn vs p ≡ deviceIn ws p
-      go true e = let l : p < slots = ltb-true p slots e in device-there vs p l ∙ there ∙ sym (device-there ws p l)
-      go false e = let l : slots ≤ p = ltb-false p slots e in device-past vs p l ∙ sym (device-past ws p l)
+          same-device (deviceThere vs p) (deviceThere ws p) (ap flag (o .at k (omega arith))) (ap flag (o .at (k + 1) (omega arith)))
+          (same-id (o .at (k + 2) (omega arith)) (o .at (k + 3) (omega arith))) (mask-off (k + 4) (omega arith)) (mask-off (k + 8) (omega arith))
+          (mask-off (k + 12) (omega arith))
 
 -- a mask apart from four words that are put
-pub put-other : (ws : List ℕ) (k : ℕ) (m : List ℕ) (j : ℕ) → (j + 4 ≤ k) ⊎ (k + 4 ≤ j) → four (putFour ws k m) j ≡ four ws j
+pub put-other : (ws : List ℕ) (k : ℕ) (m : List ℕ) (j : ℕ) → Apart k 4 j 4 → four (putFour ws k m) j ≡ four ws j
 put-other ws k m j h = four-off (off-four ws k m) j h
 
 -- ---- types and driver bytes, one by one
@@ -318,80 +268,24 @@ unbind-at qs gone (suc n) q l h = go (gone n) refl (eq-or-lt-of-le (le-of-suc-le
     go true e (inr s) rest = getD-set-other (unbind qs gone n) n q 0 0 (omega arith) ∙ rest s
     go false e (inr s) rest = rest s
 
--- ---- lengths
-
-length-chosen : (t : Bool) (us ws : List ℕ) → length us ≡ length ws → length (cond t us ws) ≡ length ws
-length-chosen true us ws e = e
-length-chosen false us ws e = refl
-
-pub numbers-length : (ws : List ℕ) (p : ℕ) (k : Kind) (m : List ℕ) → length (putNumbers ws p k m) ≡ length ws
-unfolding putNumbers
-numbers-length ws p k m = length-chosen (ltb p slots) (putFour ws (deviceAt p + kindAt k) m) ws (put-length ws (deviceAt p + kindAt k) m)
-
-pub open-length : (ws : List ℕ) (p : ℕ) (o : Bool) → length (putOpen ws p o) ≡ length ws
-unfolding putOpen
-open-length ws p o =
-    length-chosen (ltb p slots) (set ws (deviceAt p + 1) (cond o 1 0)) ws (length-set ws (deviceAt p + 1) (cond o 1 0))
-
 -- the words of a slot that is given: the first four, then three masks
 abbrev firstFour : Bool → Id → List ℕ
 firstFour t i = cond t 1 0 ∷ 0 ∷ i .hi ∷ i .lo ∷ []
 
-abbrev slot1 : List ℕ → ℕ → Bool → Id → List ℕ
-slot1 ws p t i = putFour ws (deviceAt p) (firstFour t i)
-
-abbrev slot2 : List ℕ → ℕ → Bool → Id → List ℕ
-slot2 ws p t i = putFour (slot1 ws p t i) (deviceAt p + 4) zeros
-
-abbrev slot3 : List ℕ → ℕ → Bool → Id → List ℕ
-slot3 ws p t i = putFour (slot2 ws p t i) (deviceAt p + 8) zeros
-
 abbrev slotWords : List ℕ → ℕ → Bool → Id → List ℕ
-slotWords ws p t i = putFour (slot3 ws p t i) (deviceAt p + 12) zeros
-
-pub device-length : (ws : List ℕ) (p : ℕ) (t : Bool) (i : Id) → length (putDevice ws p t i) ≡ length ws
-unfolding putDevice
-device-length ws p t i = length-chosen (ltb p slots) (slotWords ws p t i) ws (simp put-length)
-
-pub config-length : (ws : List ℕ) (c : Configuration) → length (putConfig ws c) ≡ length ws
-unfolding putConfig
-config-length ws c = types-length _ _ 256 ∙ simp put-length
-
-pub fresh-length : (a d : ℕ) → length (freshWords a d) ≡ wordCount
-unfolding freshWords
-fresh-length a d = simp (put-length, length-set) (length-replicate {A = ℕ} wordCount 0)
+slotWords ws p t i =
+    putFour (putFour (putFour (putFour ws (deviceAt p) (firstFour t i)) (deviceAt p + 4) zeros) (deviceAt p + 8) zeros) (deviceAt p + 12) zeros
 
 -- ---- the words of masks
 
--- what holds of a word holds of each of four like it
-each-like : (P : ℕ → Type 0) (x : ℕ) → P x → (q : ℕ) → q < 4 → P (getD (x ∷ x ∷ x ∷ x ∷ []) q 0)
-each-like P x h = below-four (λ q. P (getD (x ∷ x ∷ x ∷ x ∷ []) q 0)) h h h h
-
-zero-bits : bitAt 64 zeros ≡ noBits
-unfolding noBits
-zero-bits =
-    fun-ext (each-bits 64 4 zeros noBits (omega arith) refl (λ q j l _. each-like (λ x. digit x (63 - j) ≡ false) 0 (digit-zero (63 - j)) q l) (λ i l. refl))
-
-abbrev allOnes : List ℕ
+-- four words with all bits set
+abbrev pub allOnes : List ℕ
 allOnes = ones ∷ ones ∷ ones ∷ ones ∷ []
-
-one-bits : bitAt 64 allOnes ≡ allBits
-unfolding allBits
-one-bits =
-    fun-ext
-    (each-bits 64 4 allOnes allBits (omega arith) refl
-    (λ q j l h. each-like (λ x. digit x (63 - j) ≡ ltb (63 - j) 64) ones (digit-ones 64 (63 - j)) q l ∙ lt-ltb (63 - j) 64 (omega arith)
-    ∙ sym (lt-ltb (q * 64 + j) 256 (omega arith)))
-    (λ i l. le-ltb i 256 (omega arith)))
 
 -- the mask of words is the words
 pub words-of : {m : List ℕ} → Sized 64 4 m → wordsOf (bitAt 64 m) ≡ m
 unfolding wordsOf
 words-of h = numbers-of-bits (omega arith) h
-
-pub words-words : (m : Bits) → Sized 64 4 (wordsOf m)
-unfolding wordsOf
-words-words m = numbers-words 64 4 m 0
 
 pub words-bits : (m : Bits) → ((i : ℕ) → 256 ≤ i → m i ≡ false) → bitAt 64 (wordsOf m) ≡ m
 unfolding wordsOf
@@ -407,39 +301,33 @@ words-bits m none = fun-ext (λ i. go i (ltb i 256) refl)
 pub read-host : {ws vs : List ℕ} (qs : List ℕ) (h : HostMasks) → Off 2 8 ws vs → hostIn vs ≡ h → stateIn vs qs ≡ withHost h (stateIn ws qs)
 unfolding stateIn withHost
 read-host {ws} {vs} qs h o e =
-    same-state (stateIn vs qs) (withHost h (stateIn ws qs)) (limits-off o (omega arith)) e (config-off o (inr (omega arith)))
-    (fun-ext (λ p. device-off o p (inr (omega arith)))) refl
+    same-state (stateIn vs qs) (withHost h (stateIn ws qs)) (limits-off o (omega arith)) e (config-off o (omega arith))
+    (fun-ext (λ p. device-off o p (omega arith))) refl
 
 module _ (ws qs m : List ℕ) (long : length ws ≡ wordCount) (four-words : length m ≡ 4) where
   pub read-apmask : stateIn (putFour ws apmaskAt m) qs ≡ withHost (record { apmask = bitAt 64 m; aqmask = hostIn ws .aqmask }) (stateIn ws qs)
   unfolding hostIn maskAt
   read-apmask =
       let o = off-four ws apmaskAt m in
-      let p = ap (bitAt 64) (put-get ws apmaskAt m (omega arith) four-words) in
-      let q = mask-off o aqmaskAt (inr (omega arith)) in
-      read-host qs (record { apmask = bitAt 64 m; aqmask = hostIn ws .aqmask }) (off-wider 2 8 o (omega arith) (omega arith))
-      (λ i. record { apmask = p i; aqmask = q i })
+      read-host qs _ (off-wider 2 8 o (omega arith) (omega arith)) (simp (put-get ws apmaskAt m (omega arith) four-words, four-off o aqmaskAt (omega arith)))
 
   pub read-aqmask : stateIn (putFour ws aqmaskAt m) qs ≡ withHost (record { apmask = hostIn ws .apmask; aqmask = bitAt 64 m }) (stateIn ws qs)
   unfolding hostIn maskAt
   read-aqmask =
       let o = off-four ws aqmaskAt m in
-      let p = mask-off o apmaskAt (inl (omega arith)) in
-      let q = ap (bitAt 64) (put-get ws aqmaskAt m (omega arith) four-words) in
-      read-host qs (record { apmask = hostIn ws .apmask; aqmask = bitAt 64 m }) (off-wider 2 8 o (omega arith) (omega arith))
-      (λ i. record { apmask = p i; aqmask = q i })
+      read-host qs _ (off-wider 2 8 o (omega arith) (omega arith)) (simp (put-get ws aqmaskAt m (omega arith) four-words, four-off o apmaskAt (omega arith)))
 
 -- words that differ at one slot hold the state with that device replaced
 pub read-device : {ws vs : List ℕ} (qs : List ℕ) (p : ℕ) (v : Device) → p < slots → Off (deviceAt p) 16 ws vs → deviceIn vs p ≡ v
     → stateIn vs qs ≡ withDevice p v (stateIn ws qs)
 unfolding stateIn withDevice
 read-device {ws} {vs} qs p v h o e =
-    same-state (stateIn vs qs) (withDevice p v (stateIn ws qs)) (limits-off o (omega arith)) (host-off o (omega arith)) (config-off o (inl (omega arith)))
+    same-state (stateIn vs qs) (withDevice p v (stateIn ws qs)) (limits-off o (omega arith)) (host-off o (omega arith)) (config-off o (omega arith))
     (fun-ext (λ j. go j (eqb j p) refl)) refl
   where
     other : (j : ℕ) (b : Bool) → ltb j p ≡ b → j ≢ p → deviceIn vs j ≡ deviceIn ws j
-    other j true t n = let l : j < p = ltb-true j p t in device-off o j (inl (omega arith))
-    other j false t n = let l : p ≤ j = ltb-false j p t in device-off o j (inr (omega arith))
+    other j true t n = let l : j < p = ltb-true j p t in device-off o j (omega arith)
+    other j false t n = let l : p ≤ j = ltb-false j p t in device-off o j (omega arith)
 
     go : (j : ℕ) (b : Bool) → eqb j p ≡ b → deviceIn vs j ≡ cond b v (deviceIn ws j)
     go j true t = ap (deviceIn vs) (eqb-true j p t) ∙ e
@@ -461,27 +349,22 @@ module _ (ws : List ℕ) (qs : List ℕ) (p : ℕ) (long : length ws ≡ wordCou
   unfolding withNumbers
   device-numbers k m vs o e = go k o e
     where
-      first : (j : ℕ) → Off j 4 ws vs → deviceAt p + 4 ≤ j → (deviceThere vs p .present ≡ deviceThere ws p .present) × (deviceThere vs p .isOpen ≡ deviceThere ws p .isOpen) × (deviceThere vs p .id ≡ deviceThere ws p .id)
-      first j o h = (
-        ap flag (o .at (deviceAt p) (inl (omega arith))),
-        ap flag (o .at (deviceAt p + 1) (inl (omega arith))),
-        same-id (o .at (deviceAt p + 2) (inl (omega arith))) (o .at (deviceAt p + 3) (inl (omega arith))),
-      )
+      first : (j : ℕ) → Off j 4 ws vs → deviceAt p + 4 ≤ j → deviceThere vs p ≡ record {
+        present = deviceThere ws p .present;
+        isOpen = deviceThere ws p .isOpen;
+        id = deviceThere ws p .id;
+        adapters = deviceThere vs p .adapters;
+        domains = deviceThere vs p .domains;
+        controls = deviceThere vs p .controls;
+      }
+      first j o h =
+          simp (o .at (deviceAt p) (omega arith), o .at (deviceAt p + 1) (omega arith), o .at (deviceAt p + 2) (omega arith), o .at (deviceAt p + 3) (omega arith))
 
       go : (k : Kind) → Off (deviceAt p + kindAt k) 4 ws vs → maskAt vs (deviceAt p + kindAt k) ≡ bitAt 64 m
           → deviceThere vs p ≡ withNumbers k (bitAt 64 m) (deviceThere ws p)
-      go Adapter o e =
-          let (a, b, c) = first (deviceAt p + 4) o (omega arith) in
-          same-device (deviceThere vs p) (withNumbers Adapter (bitAt 64 m) (deviceThere ws p)) a b c e (mask-off o (deviceAt p + 8) (inr (omega arith)))
-          (mask-off o (deviceAt p + 12) (inr (omega arith)))
-      go Domain o e =
-          let (a, b, c) = first (deviceAt p + 8) o (omega arith) in
-          same-device (deviceThere vs p) (withNumbers Domain (bitAt 64 m) (deviceThere ws p)) a b c (mask-off o (deviceAt p + 4) (inl (omega arith))) e
-          (mask-off o (deviceAt p + 12) (inr (omega arith)))
-      go Control o e =
-          let (a, b, c) = first (deviceAt p + 12) o (omega arith) in
-          same-device (deviceThere vs p) (withNumbers Control (bitAt 64 m) (deviceThere ws p)) a b c (mask-off o (deviceAt p + 4) (inl (omega arith)))
-          (mask-off o (deviceAt p + 8) (inl (omega arith))) e
+      go Adapter o e = first (deviceAt p + 4) o (omega arith) ∙ simp (e, mask-off o (deviceAt p + 8) (omega arith), mask-off o (deviceAt p + 12) (omega arith))
+      go Domain o e = first (deviceAt p + 8) o (omega arith) ∙ simp (e, mask-off o (deviceAt p + 4) (omega arith), mask-off o (deviceAt p + 12) (omega arith))
+      go Control o e = first (deviceAt p + 12) o (omega arith) ∙ simp (e, mask-off o (deviceAt p + 4) (omega arith), mask-off o (deviceAt p + 8) (omega arith))
 
   pub read-numbers : (k : Kind) (m : List ℕ) → length m ≡ 4 → stateIn (putNumbers ws p k m) qs ≡ withDevice p (withNumbers k (bitAt 64 m) (deviceIn ws p)) (stateIn ws qs)
   unfolding putNumbers maskAt
@@ -501,9 +384,9 @@ module _ (ws : List ℕ) (qs : List ℕ) (p : ℕ) (long : length ws ≡ wordCou
       ap (λ (l : List ℕ). stateIn l qs) (cond-below p slots vs ws there)
       ∙ read-device qs p (withOpen t (deviceIn ws p)) there (off-wider (deviceAt p) 16 o (omega arith) (omega arith))
       (device-there vs p there
-      ∙ same-device (deviceThere vs p) (withOpen t (deviceThere ws p)) (ap flag (o .at (deviceAt p) (inl (omega arith)))) (ap flag (getD-set-same ws (deviceAt p + 1) (cond t 1 0) 0 (omega arith)) ∙ flag-of t)
-      (same-id (o .at (deviceAt p + 2) (inr (omega arith))) (o .at (deviceAt p + 3) (inr (omega arith)))) (mask-off o (deviceAt p + 4) (inr (omega arith)))
-      (mask-off o (deviceAt p + 8) (inr (omega arith))) (mask-off o (deviceAt p + 12) (inr (omega arith)))
+      ∙ same-device (deviceThere vs p) (withOpen t (deviceThere ws p)) (ap flag (o .at (deviceAt p) (omega arith))) (ap flag (getD-set-same ws (deviceAt p + 1) (cond t 1 0) 0 (omega arith)) ∙ flag-of t)
+      (same-id (o .at (deviceAt p + 2) (omega arith)) (o .at (deviceAt p + 3) (omega arith))) (mask-off o (deviceAt p + 4) (omega arith))
+      (mask-off o (deviceAt p + 8) (omega arith)) (mask-off o (deviceAt p + 12) (omega arith))
       ∙ ap (withOpen t) (sym (device-there ws p there)))
 
   -- either way of giving a slot
@@ -513,43 +396,31 @@ module _ (ws : List ℕ) (qs : List ℕ) (p : ℕ) (long : length ws ≡ wordCou
       same-device (deviceThere (slotWords ws p t i) p) (givenDevice t i) (ap (λ (l : List ℕ). flag (getD l 0 0)) first ∙ flag-of t)
       (ap (λ (l : List ℕ). flag (getD l 1 0)) first ∙ flag-of false) (same-id (ap (λ (l : List ℕ). getD l 2 0) first) (ap (λ (l : List ℕ). getD l 3 0) first))
       (ap (bitAt 64)
-      (put-other s3 (k + 12) zeros (k + 4) (inl (omega arith)) ∙ put-other s2 (k + 8) zeros (k + 4) (inl (omega arith))
-      ∙ put-get s1 (k + 4) zeros (simp put-length (omega arith)) refl)
+      (put-other _ (k + 12) zeros (k + 4) (omega arith) ∙ put-other _ (k + 8) zeros (k + 4) (omega arith)
+      ∙ put-get _ (k + 4) zeros (simp put-length (omega arith)) refl)
       ∙ zero-bits)
-      (ap (bitAt 64) (put-other s3 (k + 12) zeros (k + 8) (inl (omega arith)) ∙ put-get s2 (k + 8) zeros (simp put-length (omega arith)) refl) ∙ zero-bits)
-      (ap (bitAt 64) (put-get s3 (k + 12) zeros (simp put-length (omega arith)) refl) ∙ zero-bits)
+      (ap (bitAt 64) (put-other _ (k + 12) zeros (k + 8) (omega arith) ∙ put-get _ (k + 8) zeros (simp put-length (omega arith)) refl) ∙ zero-bits)
+      (ap (bitAt 64) (put-get _ (k + 12) zeros (simp put-length (omega arith)) refl) ∙ zero-bits)
     where
       k : ℕ
       k = deviceAt p
 
-      s1 : List ℕ
-      s1 = slot1 ws p t i
-
-      s2 : List ℕ
-      s2 = slot2 ws p t i
-
-      s3 : List ℕ
-      s3 = slot3 ws p t i
-
       first : four (slotWords ws p t i) k ≡ firstFour t i
       first =
-          put-other s3 (k + 12) zeros k (inl (omega arith)) ∙ put-other s2 (k + 8) zeros k (inl (omega arith))
-          ∙ put-other s1 (k + 4) zeros k (inl (omega arith)) ∙ put-get ws k (firstFour t i) (omega arith) refl
+          put-other _ (k + 12) zeros k (omega arith) ∙ put-other _ (k + 8) zeros k (omega arith) ∙ put-other _ (k + 4) zeros k (omega arith)
+          ∙ put-get ws k (firstFour t i) (omega arith) refl
 
   read-given : (t : Bool) (i : Id) → stateIn (putDevice ws p t i) qs ≡ withDevice p (givenDevice t i) (stateIn ws qs)
   unfolding putDevice
   read-given t i =
       ap (λ (vs : List ℕ). stateIn vs qs) (cond-below p slots (slotWords ws p t i) ws there)
       ∙ read-device qs p (givenDevice t i) there
-      (off-then
-      (off-then
-      (off-then (within ws (deviceAt p) (firstFour t i) (omega arith) (omega arith)) (within (slot1 ws p t i) (deviceAt p + 4) zeros (omega arith) (omega arith)))
-      (within (slot2 ws p t i) (deviceAt p + 8) zeros (omega arith) (omega arith)))
-      (within (slot3 ws p t i) (deviceAt p + 12) zeros (omega arith) (omega arith)))
+      (off-then (off-then (off-then (off-wider (deviceAt p) 16 (off-four ws (deviceAt p) (firstFour t i)) (omega arith) (omega arith)) (within _ 4 zeros (omega arith)))
+      (within _ 8 zeros (omega arith))) (within _ 12 zeros (omega arith)))
       (device-there (slotWords ws p t i) p there ∙ device-given t i)
     where
-      within : (us : List ℕ) (k : ℕ) (m : List ℕ) → deviceAt p ≤ k → k + 4 ≤ deviceAt p + 16 → Off (deviceAt p) 16 us (putFour us k m)
-      within us k m l h = off-wider (deviceAt p) 16 (off-four us k m) l h
+      within : (us : List ℕ) (k : ℕ) (m : List ℕ) → k ≤ 12 → Off (deviceAt p) 16 us (putFour us (deviceAt p + k) m)
+      within us k m l = off-wider (deviceAt p) 16 (off-four us (deviceAt p + k) m) (omega arith) (omega arith)
 
   pub read-new : (i : Id) → stateIn (putDevice ws p true i) qs ≡ withDevice p (newDevice i) (stateIn ws qs)
   unfolding newDevice
@@ -610,10 +481,8 @@ module _ (ws : List ℕ) (c : Configuration) (long : length ws ≡ wordCount) (w
   off-config : Off 10 268 ws (putConfig ws c)
   unfolding putConfig
   off-config =
-      off-then
-      (off-then (off-then (wide ws 10 (c .adapters .words) (omega arith) (omega arith)) (wide (putFour ws 10 (c .adapters .words)) 14 (c .domains .words) (omega arith) (omega arith)))
-      (wide (putFour (putFour ws 10 (c .adapters .words)) 14 (c .domains .words)) 18 (c .controls .words) (omega arith) (omega arith)))
-      (off-wider 10 268 (off-types (maskWords ws c) (typeOf c) 256) (omega arith) (omega arith))
+      off-then (off-then (off-then (wide ws 10 (c .adapters .words) (omega arith) (omega arith)) (wide _ 14 (c .domains .words) (omega arith) (omega arith)))
+      (wide _ 18 (c .controls .words) (omega arith) (omega arith))) (off-wider 10 268 (off-types (maskWords ws c) (typeOf c) 256) (omega arith) (omega arith))
     where
       wide : (us : List ℕ) (k : ℕ) (m : List ℕ) → 10 ≤ k → k + 4 ≤ 278 → Off 10 268 us (putFour us k m)
       wide us k m l h = off-wider 10 268 (off-four us k m) l (omega arith)
@@ -631,13 +500,11 @@ module _ (ws : List ℕ) (c : Configuration) (long : length ws ≡ wordCount) (w
   unfolding configIn stored maskAt putConfig
   config-put =
       let o = off-types (maskWords ws c) (typeOf c) 256 in
-      let s1 = putFour ws 10 (c .adapters .words) in
-      let s2 = putFour s1 14 (c .domains .words) in
-      let p = four-off o 10 (inl (omega arith)) ∙ put-other s2 18 (c .controls .words) 10 (inl (omega arith)) ∙ put-other s1 14 (c .domains .words) 10 (inl (omega arith))
+      let p = four-off o 10 (omega arith) ∙ put-other _ 18 (c .controls .words) 10 (omega arith) ∙ put-other _ 14 (c .domains .words) 10 (omega arith)
       ∙ put-get ws 10 (c .adapters .words) (omega arith) (wa .long) in
-      let q = four-off o 14 (inl (omega arith)) ∙ put-other s2 18 (c .controls .words) 14 (inl (omega arith))
-      ∙ put-get s1 14 (c .domains .words) (simp put-length (omega arith)) (wd .long) in
-      let r = four-off o 18 (inl (omega arith)) ∙ put-get s2 18 (c .controls .words) (simp put-length (omega arith)) (wc .long) in
+      let q = four-off o 14 (omega arith) ∙ put-other _ 18 (c .controls .words) 14 (omega arith)
+      ∙ put-get _ 14 (c .domains .words) (simp put-length (omega arith)) (wd .long) in
+      let r = four-off o 18 (omega arith) ∙ put-get _ 18 (c .controls .words) (simp put-length (omega arith)) (wc .long) in
       let t = fun-ext config-types in
       λ i. record { adapters = bitAt 64 (p i); domains = bitAt 64 (q i); controls = bitAt 64 (r i); types = t i }
 
@@ -662,86 +529,66 @@ module _ (ws : List ℕ) (c : Configuration) (long : length ws ≡ wordCount) (w
   unfolding stateIn withConfig takenAway
   read-config qs e =
       same-state (stateIn (putConfig ws c) (unbind qs (takenAway ws c) queues)) (withConfig (stored c) (stateIn ws qs)) (limits-off off-config (omega arith))
-      (host-off off-config (omega arith)) config-put (fun-ext (λ p. device-off off-config p (inr (omega arith))))
+      (host-off off-config (omega arith)) config-put (fun-ext (λ p. device-off off-config p (omega arith)))
       (fun-ext (drivers-unbound qs (takenAway ws c) queues e))
 
 -- ---- a fresh record
-
--- zeros with the limits put, with one host mask, and with both
-abbrev limitWords : List ℕ → ℕ → ℕ → List ℕ
-limitWords zs a d = set (set zs 0 a) 1 d
-
-abbrev hostWords : List ℕ → ℕ → ℕ → List ℕ
-hostWords zs a d = putFour (limitWords zs a d) apmaskAt allOnes
-
-abbrev freshOver : List ℕ → ℕ → ℕ → List ℕ
-freshOver zs a d = putFour (hostWords zs a d) aqmaskAt allOnes
 
 pub zero-at : (n q : ℕ) → getD {A = ℕ} (replicate n 0) q 0 ≡ 0
 zero-at zero q = refl
 zero-at (suc n) zero = refl
 zero-at (suc n) (suc q) = zero-at n q
 
-module _ (zs qs : List ℕ) (a d : ℕ) (long : length zs ≡ wordCount) (none : (j : ℕ) → getD zs j 0 ≡ 0) (no-driver : (q : ℕ) → getD qs q 0 ≡ 0) where
-  -- past the host's masks all words are 0
-  past-ten : (j : ℕ) → 10 ≤ j → getD (freshOver zs a d) j 0 ≡ 0
-  past-ten j h =
-      word-other (hostWords zs a d) aqmaskAt allOnes j (inr (omega arith)) ∙ word-other (limitWords zs a d) apmaskAt allOnes j (inr (omega arith))
-      ∙ getD-set-other (set zs 0 a) 1 j d 0 (omega arith) ∙ getD-set-other zs 0 j a 0 (omega arith) ∙ none j
+module _ (a d : ℕ) where
+  pub fresh-length : length (freshWords a d) ≡ wordCount
+  unfolding freshWords
+  fresh-length = refl
 
-  no-mask : (k : ℕ) → 10 ≤ k → maskAt (freshOver zs a d) k ≡ noBits
+  -- past the host's masks all words are 0
+  pub past-ten : (j : ℕ) → 10 ≤ j → getD (freshWords a d) j 0 ≡ 0
+  unfolding freshWords
+  past-ten j h =
+      let e : j ≡ 10 + (j - 10) = omega arith in
+      ap (λ (i : ℕ). getD (freshWords a d) i 0) e ∙ getD-append-add (a ∷ d ∷ replicate 8 ones) (replicate 396 0) (j - 10) 0 ∙ zero-at 396 (j - 10)
+
+  no-mask : (k : ℕ) → 10 ≤ k → maskAt (freshWords a d) k ≡ noBits
   unfolding maskAt
   no-mask k h =
       ap (bitAt 64) (four-path (past-ten k h) (past-ten (k + 1) (omega arith)) (past-ten (k + 2) (omega arith)) (past-ten (k + 3) (omega arith))) ∙ zero-bits
 
-  fresh-limits : a ≤ 255 → d ≤ 255 → limitsIn (freshOver zs a d) ≡ record { adapter = a; domain = d }
-  unfolding limitsIn
-  fresh-limits ha hd =
-      let p = ap (λ (x : ℕ). min x 255) (first 0 (omega arith) ∙ getD-set-other (set zs 0 a) 1 0 d 0 (omega arith) ∙ getD-set-same zs 0 a 0 (omega arith)) ∙ min-eq-left ha in
-      let q = ap (λ (x : ℕ). min x 255) (first 1 (omega arith) ∙ getD-set-same (set zs 0 a) 1 d 0 (simp length-set (omega arith))) ∙ min-eq-left hd in
-      λ i. record { adapter = p i; domain = q i }
-    where
-      first : (j : ℕ) → j < 2 → getD (freshOver zs a d) j 0 ≡ getD (limitWords zs a d) j 0
-      first j h = word-other (hostWords zs a d) aqmaskAt allOnes j (inl (omega arith)) ∙ word-other (limitWords zs a d) apmaskAt allOnes j (inl (omega arith))
+  fresh-limits : a ≤ 255 → d ≤ 255 → limitsIn (freshWords a d) ≡ record { adapter = a; domain = d }
+  unfolding limitsIn freshWords
+  fresh-limits ha hd = λ i. record { adapter = min-eq-left ha i; domain = min-eq-left hd i }
 
-  fresh-host : hostIn (freshOver zs a d) ≡ record { apmask = allBits; aqmask = allBits }
-  unfolding hostIn maskAt
-  fresh-host =
-      let p = ap (bitAt 64) (put-other (hostWords zs a d) aqmaskAt allOnes 2 (inl (omega arith)) ∙ put-get (limitWords zs a d) apmaskAt allOnes (simp length-set (omega arith)) refl) ∙ one-bits in
-      let q = ap (bitAt 64) (put-get (hostWords zs a d) aqmaskAt allOnes (simp (put-length, length-set) (omega arith)) refl) ∙ one-bits in
-      λ i. record { apmask = p i; aqmask = q i }
+  fresh-host : hostIn (freshWords a d) ≡ record { apmask = allBits; aqmask = allBits }
+  unfolding hostIn maskAt freshWords
+  fresh-host = λ i. record { apmask = one-bits i; aqmask = one-bits i }
 
-  fresh-config : configIn (freshOver zs a d) ≡ record { adapters = noBits; domains = noBits; controls = noBits; types = λ i. 0 }
+  fresh-config : configIn (freshWords a d) ≡ record { adapters = noBits; domains = noBits; controls = noBits; types = λ i. 0 }
   unfolding configIn
   fresh-config =
+      let t = fun-ext (λ j. ap (λ (x : ℕ). cond (ltb j 256) x 0) (past-ten (22 + j) (omega arith)) ∙ cond-both (ltb j 256) 0) in
       let p = no-mask 10 (omega arith) in
       let q = no-mask 14 (omega arith) in
       let r = no-mask 18 (omega arith) in
-      let t = fun-ext (λ j. ap (λ (x : ℕ). cond (ltb j 256) x 0) (past-ten (22 + j) (omega arith)) ∙ cond-both (ltb j 256) 0) in
       λ i. record { adapters = p i; domains = q i; controls = r i; types = t i }
 
-  fresh-device : (p : ℕ) → deviceIn (freshOver zs a d) p ≡ noDevice
-  unfolding noDevice
-  fresh-device p = go (ltb p slots) refl
+  fresh-device : (p : ℕ) → deviceIn (freshWords a d) p ≡ noDevice
+  unfolding deviceIn noDevice
+  fresh-device p = ap (λ (v : Device). cond (ltb p slots) v noDevice) there ∙ cond-both (ltb p slots) noDevice
     where
-      go : (b : Bool) → ltb p slots ≡ b → deviceIn (freshOver zs a d) p ≡ noDevice
-      go true e =
-          device-there (freshOver zs a d) p (ltb-true p slots e)
-          ∙ same-device (deviceThere (freshOver zs a d) p) noDevice (ap flag (past-ten (deviceAt p) (omega arith)) ∙ flag-of false)
+      there : deviceThere (freshWords a d) p ≡ noDevice
+      there =
+          same-device (deviceThere (freshWords a d) p) noDevice (ap flag (past-ten (deviceAt p) (omega arith)) ∙ flag-of false)
           (ap flag (past-ten (deviceAt p + 1) (omega arith)) ∙ flag-of false)
           (same-id (past-ten (deviceAt p + 2) (omega arith)) (past-ten (deviceAt p + 3) (omega arith))) (no-mask (deviceAt p + 4) (omega arith))
           (no-mask (deviceAt p + 8) (omega arith)) (no-mask (deviceAt p + 12) (omega arith))
-      go false e = device-past (freshOver zs a d) p (ltb-false p slots e)
 
-  fresh-over : a ≤ 255 → d ≤ 255 → stateIn (freshOver zs a d) qs ≡ fresh (record { adapter = a; domain = d })
+  pub read-fresh : a ≤ 255 → d ≤ 255 → stateIn (freshWords a d) (replicate queues 0) ≡ fresh (record { adapter = a; domain = d })
   unfolding stateIn fresh
-  fresh-over ha hd =
-      same-state (stateIn (freshOver zs a d) qs) (fresh (record { adapter = a; domain = d })) (fresh-limits ha hd) fresh-host fresh-config (fun-ext fresh-device)
-      (fun-ext (λ q. ap driverOf (no-driver q) ∙ unbound-zero))
-
-pub read-fresh : (a d : ℕ) → a ≤ 255 → d ≤ 255 → stateIn (freshWords a d) (replicate queues 0) ≡ fresh (record { adapter = a; domain = d })
-unfolding freshWords
-read-fresh a d ha hd = fresh-over (replicate wordCount 0) (replicate 65536 0) a d (length-replicate {A = ℕ} wordCount 0) (zero-at wordCount) (zero-at 65536) ha hd
+  read-fresh ha hd =
+      same-state (stateIn (freshWords a d) (replicate queues 0)) (fresh (record { adapter = a; domain = d })) (fresh-limits ha hd) fresh-host fresh-config
+      (fun-ext fresh-device) (fun-ext (λ q. ap driverOf (zero-at queues q) ∙ unbound-zero))
 
 -- ---- a command
 

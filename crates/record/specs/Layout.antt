@@ -4,7 +4,7 @@
 -- Assumes nothing.
 use Prim.Native.Nat.{ℕ, zero, suc, _+_, _-_, _*_, _^_, min}
 use mathlib.Core.Bool.{Bool, true, false, cond, not, _&&_}
-use mathlib.Core.List.{List, [], _∷_}
+use mathlib.Core.List.{List, [], _∷_, _++_}
 use lib.ListN.{getD, set, replicate}
 use lib.Dec.{eqb, ltb}
 use Rattle.mask.specs.Bits.{Bits, bits, bitAt, numbers}
@@ -172,8 +172,7 @@ ones = 2 ^ 64 - 1
 
 -- the words of a fresh record
 unfoldable pub freshWords : ℕ → ℕ → List ℕ
-freshWords a d =
-    putFour (putFour (set (set (replicate wordCount 0) 0 a) 1 d) apmaskAt (ones ∷ ones ∷ ones ∷ ones ∷ [])) aqmaskAt (ones ∷ ones ∷ ones ∷ ones ∷ [])
+freshWords a d = a ∷ d ∷ (replicate 8 ones ++ replicate (wordCount - 10) 0)
 
 -- the driver bytes with those of the queues that are no longer configured cleared
 unfoldable pub unbind : List ℕ → Bits → ℕ → List ℕ

@@ -15,28 +15,10 @@ Inv-loop s from i₀ i = (from ≤ i) × (i ≤ length s) × ((k : ℕ) → k < 
 abbrev μ-loop : tie.MeasureT-loop
 μ-loop s from i₀ i = length s - i
 
-loop-holds : tie.Need-loop-holds Inv-loop μ-loop
-loop-holds c = (omega arith, omega arith, λ k l f. absurd (omega arith))
-
-returns : tie.Need-returns Inv-loop μ-loop
-returns c = ((omega arith, omega arith), (c .before .before .before .loop .inv .2, λ l. c .if1 .taken))
-
-loop-again : tie.Need-loop-again Inv-loop μ-loop
-loop-again c = (omega arith, omega arith, below-more _ _ (c .before .before .before .loop .inv .2) (λ f. c .if1 .left))
-
-returns-2 : tie.Need-returns-2 Inv-loop μ-loop
-returns-2 c = ((omega arith, omega arith), (c .before .loop .inv .2, λ l. absurd (omega arith)))
-
 pub comma-spec : {M : Type 1} → statement M
 comma-spec =
     tie.close
-    (tie.spec
-    Inv-loop
-    μ-loop
-    loop-holds
-    (λ c. search needs)
-    returns
-    (λ c. search needs)
-    (λ c. search needs)
-    loop-again
-    returns-2)
+    (tie.spec Inv-loop μ-loop (λ c. (omega arith, omega arith, λ k l f. absurd (omega arith))) (λ c. search needs)
+    (λ c. ((omega arith, omega arith), (c .before .before .before .loop .inv .2, λ l. c .if1 .taken))) (λ c. search needs) (λ c. search needs)
+    (λ c. (omega arith, omega arith, below-more _ _ (c .before .before .before .loop .inv .2) (λ f. c .if1 .left)))
+    (λ c. ((omega arith, omega arith), (c .before .loop .inv .2, λ l. absurd (omega arith)))))

@@ -35,9 +35,6 @@ returns-2 c =
     let s = now (c .before .before .before .before .args .s) in
     (c .bad2 .ensures .0 ∙ sym (hex-many (drop 2 s) (simp length-drop (omega arith))), c .bad2 .ensures .1)
 
-loop-holds : tie.Need-loop-holds Inv-loop μ-loop
-loop-holds c = (omega arith, omega arith, refl, c .empty .ensures ∙ sym (bits-none 4))
-
 returns-3 : tie.Need-returns-3 Inv-loop μ-loop
 returns-3 c =
     let s = now (c .before .before .before .before .before .before .before .before .before .before .args .s) in
@@ -75,23 +72,6 @@ returns-4 c =
 pub hex-mask-spec : {M : Type 1} → statement M
 hex-mask-spec =
     tie.close
-    (tie.spec
-    Inv-loop
-    μ-loop
-    (λ c κs. search needs)
-    returns
-    (λ c κs. search needs)
-    returns-2
-    (λ c κs. search needs)
-    loop-holds
-    (λ c. search needs)
-    (λ c κs. search needs)
-    (λ c κs. search needs)
-    returns-3
-    (λ c. search needs)
-    (λ c. search needs)
-    (λ c κs. search needs)
-    (λ c. search needs)
-    (λ c. search needs)
-    loop-again
-    returns-4)
+    (tie.spec Inv-loop μ-loop (λ c κs. search needs) returns (λ c κs. search needs) returns-2 (λ c κs. search needs)
+    (λ c. (omega arith, omega arith, refl, c .empty .ensures ∙ sym (bits-none 4))) (λ c. search needs) (λ c κs. search needs) (λ c κs. search needs) returns-3
+    (λ c. search needs) (λ c. search needs) (λ c κs. search needs) (λ c. search needs) (λ c. search needs) loop-again returns-4)

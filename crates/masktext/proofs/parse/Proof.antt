@@ -37,12 +37,4 @@ returns-2 c =
 
 pub parse-spec : {M : Type 1} → statement M
 parse-spec =
-    tie.close
-    (tie.spec
-    (λ c κs. search needs)
-    slice-aggregate-b
-    (λ c κs. search needs)
-    (λ c κs. search needs)
-    returns
-    (λ c κs. search needs)
-    returns-2)
+    tie.close (tie.spec (λ c κs. search needs) slice-aggregate-b (λ c κs. search needs) (λ c κs. search needs) returns (λ c κs. search needs) returns-2)

@@ -11,17 +11,9 @@ use Rattle.number.proofs.Laws.{body-le}
 use Rattle.number.proofs.body_len.Statement.{statement}
 use Rattle.number.proofs.body_len.Tie as tie
 
-returns : tie.Need-returns
-returns c = omega (arith, body-le (now (c .before .args .s)))
-
-returns-2 : tie.Need-returns-2
-unfolding body
-returns-2 c = rw (eq-eqb _ _ (c .if2 .taken)) (sym (length-take-le _ _ (omega arith)))
-
-returns-3 : tie.Need-returns-3
-unfolding body
-returns-3 c = rw (ne-eqb _ _ (c .if2 .left))
-
 pub body-len-spec : {M : Type 1} → statement M
+unfolding body
 body-len-spec =
-    tie.close (tie.spec returns (λ c. search needs) (λ c. search needs) (λ c. search needs) returns-2 returns-3)
+    tie.close
+    (tie.spec (λ c. omega (arith, body-le (now (c .before .args .s)))) (λ c. search needs) (λ c. search needs) (λ c. search needs)
+    (λ c. rw (eq-eqb _ _ (c .if2 .taken)) (sym (length-take-le _ _ (omega arith)))) (λ c. rw (ne-eqb _ _ (c .if2 .left))))

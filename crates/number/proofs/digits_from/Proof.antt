@@ -23,10 +23,6 @@ Inv-loop s from base limit v₀ i₀ v i =
 abbrev μ-loop : tie.MeasureT-loop
 μ-loop s from base limit v₀ i₀ v i = length s - i
 
-returns : tie.Need-returns Inv-loop μ-loop
-unfolding outcome digits atMost
-returns c = rw (drop-of-length-le (now (c .before .before .args .s)) {i = c .before .before .args .from} (omega arith))
-
 loop-holds : tie.Need-loop-holds Inv-loop μ-loop
 unfolding digits
 loop-holds c = (
@@ -43,9 +39,6 @@ returns-2 c =
     let got : oneMore (a .limit) (a .base) (l .v) (getD (now (a .s)) (l .i) 0) ≡ refused Einval =
     sym (c .before .before .one-more .ensures) ∙ ap outcome (c .enum-told .given .1) in
     sym (l .inv .2 ∙ turn-at (a .limit) (a .base) (l .v) (l .i) (now (a .s)) (omega arith) ∙ ap (andDigits (a .limit) (a .base) (drop (l .i + 1) (now (a .s)))) got)
-
-loop-less : tie.Need-loop-less Inv-loop μ-loop
-loop-less c = omega arith
 
 loop-again : tie.Need-loop-again Inv-loop μ-loop
 unfolding outcome andDigits
@@ -67,19 +60,8 @@ returns-3 c =
     rw (c .before .loop .inv .2, p, le-leb (c .before .loop .v) (c .before .before .before .before .args .limit) (omega arith))
 
 pub digits-from-spec : {M : Type 1} → statement M
+unfolding outcome digits atMost
 digits-from-spec =
     tie.close
-    (tie.spec
-    Inv-loop
-    μ-loop
-    returns
-    loop-holds
-    (λ c. search needs)
-    (λ c κs. search needs)
-    (λ c. search needs)
-    (λ c. search needs)
-    returns-2
-    (λ c. search needs)
-    loop-less
-    loop-again
-    returns-3)
+    (tie.spec Inv-loop μ-loop (λ c. rw (drop-of-length-le (now (c .before .before .args .s)) {i = c .before .before .args .from} (omega arith))) loop-holds
+    (λ c. search needs) (λ c κs. search needs) (λ c. search needs) (λ c. search needs) returns-2 (λ c. search needs) (λ c. omega arith) loop-again returns-3)

@@ -8,11 +8,5 @@ use borrow.Author.Needs.{needs}
 use Rattle.number.proofs.first.Statement.{statement}
 use Rattle.number.proofs.first.Tie as tie
 
-returns : tie.Need-returns
-returns c = sym (List·getD-eq-default (now (c .before .args .s)) 0 {n = 0} (omega arith))
-
-returns-2 : tie.Need-returns-2
-returns-2 c = refl
-
 pub first-spec : {M : Type 1} → statement M
-first-spec = tie.close (tie.spec (λ c. search needs) returns returns-2)
+first-spec = tie.close (tie.spec (λ c. search needs) (λ c. sym (List·getD-eq-default (now (c .before .args .s)) 0 {n = 0} (omega arith))) (λ c. refl))

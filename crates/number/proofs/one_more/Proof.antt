@@ -9,19 +9,9 @@ use Rattle.number.specs.Text.{outcome, digitOf, atMost}
 use Rattle.number.proofs.one_more.Statement.{statement}
 use Rattle.number.proofs.one_more.Tie as tie
 
-returns : tie.Need-returns
-unfolding outcome
-returns c = rw (le-ltb (digitOf (c .before .before .args .c)) (c .before .before .args .base) (omega arith))
-
 -- the product of a u16 and a u8
 product : (c : tie.Else1) → c .before .before .args .v * c .before .before .args .base ≤ 65535 * 255
 product c = mul-le-mul {n₂ = 65535} {m₂ = 255} (omega arith) (omega arith)
-
-mul-next : tie.Need-mul-next
-mul-next c = omega (arith, product c)
-
-add-next : tie.Need-add-next
-add-next c = omega (arith, product c)
 
 returns-2 : tie.Need-returns-2
 unfolding outcome atMost
@@ -41,6 +31,8 @@ returns-3 c =
     )
 
 pub one-more-spec : {M : Type 1} → statement M
+unfolding outcome
 one-more-spec =
     tie.close
-    (tie.spec (λ c κs. search needs) returns mul-next (λ c. search needs) add-next returns-2 (λ c. search needs) returns-3)
+    (tie.spec (λ c κs. search needs) (λ c. rw (le-ltb (digitOf (c .before .before .args .c)) (c .before .before .args .base) (omega arith)))
+    (λ c. omega (arith, product c)) (λ c. search needs) (λ c. omega (arith, product c)) returns-2 (λ c. search needs) returns-3)

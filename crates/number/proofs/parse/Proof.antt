@@ -23,5 +23,4 @@ returns c =
 
 pub parse-spec : {M : Type 1} → statement M
 parse-spec =
-    tie.close
-    (tie.spec (λ c κs. search needs) slice-aggregate-parse-at-most (λ c κs. search needs) returns)
+    tie.close (tie.spec (λ c κs. search needs) slice-aggregate-parse-at-most (λ c κs. search needs) returns)

@@ -10,10 +10,6 @@ use Rattle.number.specs.Text.{outcome, anyBase, numberRule}
 use Rattle.number.proofs.parse_at_most.Statement.{statement}
 use Rattle.number.proofs.parse_at_most.Tie as tie
 
-returns : tie.Need-returns
-unfolding outcome numberRule
-returns c = rw (lt-leb (length (now (c .before .before .args .s))) 16 (omega arith))
-
 returns-2 : tie.Need-returns-2
 unfolding anyBase numberRule
 returns-2 c =
@@ -43,15 +39,8 @@ returns-4 c =
     (c .digits-from3 .ensures)
 
 pub parse-at-most-spec : {M : Type 1} → statement M
+unfolding outcome numberRule
 parse-at-most-spec =
     tie.close
-    (tie.spec
-    returns
-    (λ c κs. search needs)
-    (λ c κs. search needs)
-    returns-2
-    (λ c κs. search needs)
-    (λ c κs. search needs)
-    returns-3
-    (λ c κs. search needs)
-    returns-4)
+    (tie.spec (λ c. rw (lt-leb (length (now (c .before .before .args .s))) 16 (omega arith))) (λ c κs. search needs) (λ c κs. search needs) returns-2
+    (λ c κs. search needs) (λ c κs. search needs) returns-3 (λ c κs. search needs) returns-4)

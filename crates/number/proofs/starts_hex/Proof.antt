@@ -1,6 +1,7 @@
 -- `starts_hex` meets its contract.
 -- Assumes nothing.
 use native.Mathlib.Omega.{arith}
+use mathlib.Core.Bool.{and-false}
 use mathlib.Core.Path.{sym}
 use denote.Ref.{now}
 use lib.ListN.{getD, List·getD-eq-default}
@@ -8,7 +9,6 @@ use lib.Dec.{eqb}
 use borrow.Author.Tests.{eq-eqb, ne-eqb}
 use borrow.Author.Needs.{needs}
 use Rattle.number.specs.Text.{startsHex}
-use Rattle.number.proofs.Laws.{and-false}
 use Rattle.number.proofs.starts_hex.Statement.{statement}
 use Rattle.number.proofs.starts_hex.Tie as tie
 
@@ -18,14 +18,7 @@ returns c =
     let s = now (c .before .args .s) in
     rw (List·getD-eq-default s 0 {n = 1} (omega arith)) (sym (and-false (eqb (getD s 0 0) 48)))
 
-returns-2 : tie.Need-returns-2
-unfolding startsHex
-returns-2 c = rw (ne-eqb _ _ (c .if2 .taken))
-
-returns-3 : tie.Need-returns-3
-unfolding startsHex
-returns-3 c = rw (eq-eqb _ _ (c .before .if2 .left))
-
 pub starts-hex-spec : {M : Type 1} → statement M
+unfolding startsHex
 starts-hex-spec =
-    tie.close (tie.spec returns (λ c. search needs) returns-2 (λ c. search needs) returns-3)
+    tie.close (tie.spec returns (λ c. search needs) (λ c. rw (ne-eqb _ _ (c .if2 .taken))) (λ c. search needs) (λ c. rw (eq-eqb _ _ (c .before .if2 .left))))

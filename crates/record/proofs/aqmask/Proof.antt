@@ -1,15 +1,10 @@
 -- `aqmask` meets its contract.
 -- Assumes nothing.
-use mathlib.Core.Path.{ap}
 use borrow.Author.Needs.{needs}
-use Rattle.mask.specs.Bits.{bitAt}
 use Rattle.record.specs.Layout.{hostIn, maskAt}
 use Rattle.record.proofs.aqmask.Statement.{statement}
 use Rattle.record.proofs.aqmask.Tie as tie
 
-returns : tie.Need-returns
-unfolding hostIn maskAt
-returns c = ap (bitAt 64) (c .mask-at .ensures)
-
 pub aqmask-spec : {M : Type 1} → statement M
-aqmask-spec = tie.close (tie.spec (λ c κs. search needs) returns)
+unfolding hostIn maskAt
+aqmask-spec = tie.close (tie.spec (λ c κs. search needs) (λ c. cc))

@@ -18,10 +18,6 @@ Inv-loop words₀ slot₀ words slot = (slot ≤ slots) × (words ≡ clearSlots
 abbrev μ-loop : tie.MeasureT-loop
 μ-loop words₀ slot₀ words slot = slots - slot
 
-loop-holds : tie.Need-loop-holds Inv-loop μ-loop
-unfolding clearSlots
-loop-holds c = (omega arith, refl)
-
 loop-again : tie.Need-loop-again Inv-loop μ-loop
 unfolding clearSlots
 loop-again c =
@@ -36,6 +32,5 @@ returns c =
     c .before .loop .inv .1 ∙ ap (clearSlots (c .before .before .args .words .now)) e
 
 pub clear-slots-spec : {M : Type 1} → statement M
-clear-slots-spec =
-    tie.close
-    (tie.spec Inv-loop μ-loop loop-holds (λ c κs. search needs) (λ c. search needs) (λ c. search needs) loop-again returns)
+unfolding clearSlots
+clear-slots-spec = tie.close (tie.spec Inv-loop μ-loop (λ c. (omega arith, refl)) (λ c κs. search needs) (λ c. search needs) (λ c. search needs) loop-again returns)

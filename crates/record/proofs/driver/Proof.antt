@@ -8,14 +8,6 @@ use Rattle.record.specs.Layout.{driverOf}
 use Rattle.record.proofs.driver.Statement.{statement}
 use Rattle.record.proofs.driver.Tie as tie
 
-returns : tie.Need-returns
-unfolding driverOf
-returns c = rw (c .if1 .taken)
-
-returns-2 : tie.Need-returns-2
-unfolding driverOf
-returns-2 c = rw (c .if2 .taken)
-
 returns-3 : tie.Need-returns-3
 unfolding driverOf
 returns-3 c =
@@ -24,5 +16,8 @@ returns-3 c =
     rw (ne-eqb b 1 (c .before .if1 .left), ne-eqb b 2 (c .if2 .left))
 
 pub driver-spec : {M : Type 1} → statement M
+unfolding driverOf
 driver-spec =
-    tie.close (tie.spec (λ c. search needs) (λ c. search needs) (λ c. search needs) (λ c. search needs) (λ c. search needs) returns returns-2 returns-3)
+    tie.close
+    (tie.spec (λ c. search needs) (λ c. search needs) (λ c. search needs) (λ c. search needs) (λ c. search needs) (λ c. rw (c .if1 .taken)) (λ c. rw (c .if2 .taken))
+    returns-3)

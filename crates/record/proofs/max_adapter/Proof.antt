@@ -5,9 +5,6 @@ use Rattle.record.specs.Layout.{limitsIn}
 use Rattle.record.proofs.max_adapter.Statement.{statement}
 use Rattle.record.proofs.max_adapter.Tie as tie
 
-returns : tie.Need-returns
-unfolding limitsIn
-returns c = c .limit .ensures
-
 pub max-adapter-spec : {M : Type 1} → statement M
-max-adapter-spec = tie.close (tie.spec (λ c. search needs) (λ c κs. search needs) returns)
+unfolding limitsIn
+max-adapter-spec = tie.close (tie.spec (λ c. search needs) (λ c κs. search needs) (λ c. c .limit .ensures))

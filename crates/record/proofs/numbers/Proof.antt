@@ -14,12 +14,6 @@ use Rattle.record.proofs.Laws.{device-there, device-past, numbers-there
 use Rattle.record.proofs.numbers.Statement.{statement}
 use Rattle.record.proofs.numbers.Tie as tie
 
-add-mask-at-2 : tie.Need-add-mask-at-2
-add-mask-at-2 c = omega (arith, kind-small (c .before .before .args .kind))
-
-mask-at-requires : tie.Need-mask-at-requires
-mask-at-requires c κs = omega (arith, kind-small (c .before .before .args .kind))
-
 returns : tie.Need-returns
 unfolding maskAt
 returns c =
@@ -41,12 +35,5 @@ returns-2 c =
 pub numbers-spec : {M : Type 1} → statement M
 numbers-spec =
     tie.close
-    (tie.spec
-    (λ c. search needs)
-    (λ c. search needs)
-    (λ c κs. search needs)
-    add-mask-at-2
-    mask-at-requires
-    returns
-    (λ c κs. search needs)
-    returns-2)
+    (tie.spec (λ c. search needs) (λ c. search needs) (λ c κs. search needs) (λ c. omega (arith, kind-small (c .before .before .args .kind)))
+    (λ c κs. omega (arith, kind-small (c .before .before .args .kind))) returns (λ c κs. search needs) returns-2)

@@ -6,10 +6,11 @@ use mathlib.Core.Path.{sym, ap, _∙_}
 use mathlib.Core.Bool.{Bool, cond}
 use mathlib.Core.List.{List, [], _∷_}
 use mathlib.Core.Logic.{⊎-elim}
+use borrow.Author.Tests.{le-ltb}
 use borrow.Author.Needs.{needs}
 use Rattle.rules.specs.State.{slots}
 use Rattle.record.specs.Layout.{putFour, zeros, putDevice}
-use Rattle.record.proofs.Laws.{cond-below, cond-past}
+use Rattle.record.proofs.Laws.{cond-below}
 use Rattle.record.proofs.put_device.Statement.{statement}
 use Rattle.record.proofs.put_device.Tie as tie
 
@@ -27,24 +28,9 @@ returns c =
     (c .before .before .before .before .before .before .before .before .if2 .came)))))
     ∙ sym (cond-below (a .slot) slots _ (a .words .now) (omega arith))
 
-returns-2 : tie.Need-returns-2
-unfolding putDevice
-returns-2 c =
-    let a = c .before .args in
-    sym (cond-past (a .slot) slots _ (a .words .now) (omega arith))
-
 pub put-device-spec : {M : Type 1} → statement M
+unfolding putDevice
 put-device-spec =
     tie.close
-    (tie.spec
-    (λ c. search needs)
-    (λ c. search needs)
-    (λ c κs. search needs)
-    (λ c. search needs)
-    (λ c κs. search needs)
-    (λ c. search needs)
-    (λ c κs. search needs)
-    (λ c. search needs)
-    (λ c κs. search needs)
-    returns
-    returns-2)
+    (tie.spec (λ c. search needs) (λ c. search needs) (λ c κs. search needs) (λ c. search needs) (λ c κs. search needs) (λ c. search needs) (λ c κs. search needs)
+    (λ c. search needs) (λ c κs. search needs) returns (λ c. simp (le-ltb _ _ (c .if1 .left))))

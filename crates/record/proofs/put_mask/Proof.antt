@@ -6,27 +6,10 @@ use Rattle.record.specs.Layout.{putFour}
 use Rattle.record.proofs.put_mask.Statement.{statement}
 use Rattle.record.proofs.put_mask.Tie as tie
 
-returns : tie.Need-returns
-unfolding putFour
-returns c = refl
-
 pub put-mask-spec : {M : Type 1} → statement M
+unfolding putFour
 put-mask-spec =
     tie.close
-    (tie.spec
-    (λ c. search needs)
-    (λ c. search needs)
-    (λ c. search needs)
-    (λ c. search needs)
-    (λ c. search needs)
-    (λ c. search needs)
-    (λ c. search needs)
-    (λ c. search needs)
-    (λ c. search needs)
-    (λ c. search needs)
-    (λ c. search needs)
-    (λ c. search needs)
-    (λ c. search needs)
-    (λ c. search needs)
-    (λ c. search needs)
-    returns)
+    (tie.spec (λ c. search needs) (λ c. search needs) (λ c. search needs) (λ c. search needs) (λ c. search needs) (λ c. search needs) (λ c. search needs)
+    (λ c. search needs) (λ c. search needs) (λ c. search needs) (λ c. search needs) (λ c. search needs) (λ c. search needs) (λ c. search needs) (λ c. search needs)
+    (λ c. refl))

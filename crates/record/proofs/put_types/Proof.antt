@@ -19,10 +19,6 @@ Inv-loop s₀ adapters types a₀ s a = (a ≤ 256) × (s ≡ putTypes s₀ (λ 
 abbrev μ-loop : tie.MeasureT-loop
 μ-loop s₀ adapters types a₀ s a = 256 - a
 
-loop-holds : tie.Need-loop-holds Inv-loop μ-loop
-unfolding putTypes
-loop-holds c = (omega arith, refl)
-
 loop-again : tie.Need-loop-again Inv-loop μ-loop
 loop-again c =
     let a = c .before .before .before .loop .a in
@@ -41,20 +37,8 @@ returns c =
     c .before .loop .inv .1 ∙ ap (putTypes (r .words .now) (λ i. cond (bits (r .adapters) i) (getD (r .t3) i 0) 0)) last
 
 pub put-types-spec : {M : Type 1} → statement M
+unfolding putTypes
 put-types-spec =
     tie.close
-    (tie.spec
-    Inv-loop
-    μ-loop
-    loop-holds
-    (λ c. search needs)
-    (λ c κs. search needs)
-    (λ c. search needs)
-    (λ c κs. search needs)
-    (λ c. search needs)
-    (λ c. search needs)
-    (λ c. search needs)
-    (λ c. search needs)
-    (λ c. search needs)
-    loop-again
-    returns)
+    (tie.spec Inv-loop μ-loop (λ c. (omega arith, refl)) (λ c. search needs) (λ c κs. search needs) (λ c. search needs) (λ c κs. search needs) (λ c. search needs)
+    (λ c. search needs) (λ c. search needs) (λ c. search needs) (λ c. search needs) loop-again returns)

@@ -4,8 +4,5 @@ use borrow.Author.Needs.{needs}
 use Rattle.record.proofs.small_bytes.Statement.{statement}
 use Rattle.record.proofs.small_bytes.Tie as tie
 
-returns : tie.Need-returns
-returns c = λ k. c .before .shared-slice-known .given k .fits
-
 pub small-bytes-spec : {M : Type 1} → statement M
-small-bytes-spec = tie.close (tie.spec (λ c κs. search needs) returns)
+small-bytes-spec = tie.close (tie.spec (λ c κs. search needs) (λ c. λ k. c .before .shared-slice-known .given k .fits))

@@ -4,8 +4,5 @@ use borrow.Author.Needs.{needs}
 use Rattle.record.proofs.small_words.Statement.{statement}
 use Rattle.record.proofs.small_words.Tie as tie
 
-returns : tie.Need-returns
-returns c = λ k. c .before .shared-slice-known .given k .fits
-
 pub small-words-spec : {M : Type 1} → statement M
-small-words-spec = tie.close (tie.spec (λ c κs. search needs) returns)
+small-words-spec = tie.close (tie.spec (λ c κs. search needs) (λ c. λ k. c .before .shared-slice-known .given k .fits))

@@ -41,9 +41,6 @@ past : (n i : ℕ) → 256 ≤ i → bitsAbove n i ≡ false
 unfolding bitsAbove
 past n i l = ap (λ (b : Bool). ltb n i && b) (le-ltb i 256 l) ∙ and-false (ltb n i)
 
-sub-part-2 : tie.Need-sub-part-2
-sub-part-2 c = one-shl-pos 64 _ (omega arith)
-
 returns : tie.Need-returns
 unfolding bitsAbove
 returns c =
@@ -60,14 +57,5 @@ returns c =
 pub beyond-spec : {M : Type 1} → statement M
 beyond-spec =
     tie.close
-    (tie.spec
-    (λ c. search needs)
-    (λ c. search needs)
-    (λ c. search needs)
-    (λ c. search needs)
-    sub-part-2
-    (λ c κs. search needs)
-    (λ c κs. search needs)
-    (λ c κs. search needs)
-    (λ c κs. search needs)
-    returns)
+    (tie.spec (λ c. search needs) (λ c. search needs) (λ c. search needs) (λ c. search needs) (λ c. one-shl-pos 64 _ (omega arith)) (λ c κs. search needs)
+    (λ c κs. search needs) (λ c κs. search needs) (λ c κs. search needs) returns)

@@ -16,15 +16,6 @@ use Rattle.mask.proofs.Mask.count.Tie as tie
 tops : (c : tie.After-x) (q : ℕ) → ones (getD (c .before .args .self .words) q 0) ≤ 64
 tops c q = ones-le 64 (getD (c .before .args .self .words) q 0) (mask-words (c .before .args .self) (c .before .good .0) .small q)
 
-add-result : tie.Need-add-result
-add-result c = omega (arith, tops c 0, tops c 1, tops c 2, tops c 3)
-
-add-result-2 : tie.Need-add-result-2
-add-result-2 c = omega (arith, tops c 0, tops c 1, tops c 2, tops c 3)
-
-add-result-3 : tie.Need-add-result-3
-add-result-3 c = omega (arith, tops c 0, tops c 1, tops c 2, tops c 3)
-
 returns : tie.Need-returns
 returns c =
     let x = c .before .args .self .words in
@@ -35,12 +26,5 @@ returns c =
 pub count-spec : {M : Type 1} → statement M
 count-spec =
     tie.close
-    (tie.spec
-    (λ c. search needs)
-    (λ c. search needs)
-    add-result
-    (λ c. search needs)
-    add-result-2
-    (λ c. search needs)
-    add-result-3
-    returns)
+    (tie.spec (λ c. search needs) (λ c. search needs) (λ c. omega (arith, tops c 0, tops c 1, tops c 2, tops c 3)) (λ c. search needs)
+    (λ c. omega (arith, tops c 0, tops c 1, tops c 2, tops c 3)) (λ c. search needs) (λ c. omega (arith, tops c 0, tops c 1, tops c 2, tops c 3)) returns)

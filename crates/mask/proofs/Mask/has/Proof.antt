@@ -6,11 +6,8 @@ use Rattle.mask.specs.Bits.{digit, bitAt}
 use Rattle.mask.proofs.Mask.has.Statement.{statement}
 use Rattle.mask.proofs.Mask.has.Tie as tie
 
-returns : tie.Need-returns
-unfolding digit bitAt
-returns c = refl
-
 pub has-spec : {M : Type 1} → statement M
+unfolding digit bitAt
 has-spec =
     tie.close
-    (tie.spec (λ c. search needs) (λ c. search needs) (λ c. search needs) (λ c. search needs) (λ c. search needs) (λ c. search needs) (λ c. search needs) returns)
+    (tie.spec (λ c. search needs) (λ c. search needs) (λ c. search needs) (λ c. search needs) (λ c. search needs) (λ c. search needs) (λ c. search needs) (λ c. refl))
