@@ -16,10 +16,10 @@ use Rattle.rules.specs.declared.Driver.the-variants.{Unbound, Host, Passthrough
 use Rattle.rules.specs.declared.Moved.{Moved}
 use Rattle.rules.specs.declared.Moved.the-variants.{Idle, Released, BoundHost, BoundPassthrough}
 use Rattle.rules.specs.State.{HostMasks, Config, queues}
-use Rattle.rules.specs.Queues.{reserved, configured, targetOf, moved, after, due, dueAt, sumBelow, remaining, rebound, moveAnswer, move, moves, sweepFrom, sweep, mostMoves, movesUsed}
+use Rattle.rules.specs.Queues.{reserved, configured, targetOf, moved, after, due, dueAt, sumBelow, remaining, rebound, moveAnswer, move, moves, mostMoves, movesUsed}
 use Rattle.rules.proofs.Products.{queue-split, in-product, queue-apid}
 use Rattle.rules.proofs.Sums.{sum-none, sum-more, sumFrom, sum-split}
-use Rattle.rules.proofs.Sweeps.{remaining-swept, sweeping}
+use Rattle.rules.proofs.Sweeps.{sweepFrom, sweep, remaining-swept, sweeping}
 use Rattle.record.specs.Layout.{stateIn, hostIn, configIn, driverOf, byteOf}
 use Rattle.record.proofs.Laws.{driver-of-byte, read-rebound}
 use Rattle.bind.specs.declared.Swept.{Swept}

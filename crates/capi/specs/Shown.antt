@@ -1,12 +1,12 @@
 -- What a call leaves behind its pointers. Each record but the last takes what the function below promises of its result.
 -- Assumes nothing.
-use Prim.Native.Nat.{ℕ, _-_}
+use Prim.Native.Nat.{ℕ}
 use mathlib.Core.List.{List, _++_}
 use mathlib.Core.Path.{_≡_}
-use lib.ListN.{length, replicate}
+use lib.ListN.{length}
 use denote.Ref.{RefT, now}
 use Rattle.errno.specs.declared.Errno.{Errno}
-use Rattle.errno.specs.Errno.{numberOf, nameOf}
+use Rattle.errno.specs.Errno.{numberOf, nameOf, padded}
 use Rattle.mask.specs.Bits.{Bits, bits, numbers}
 use Rattle.rules.specs.declared.Masks.{Masks}
 use Rattle.rules.specs.Commands.{answered}
@@ -58,10 +58,6 @@ Nameless value = (e : Errno) → value ≡ numberOf e → ⊥
 -- the case that has the value, where one has it
 abbrev pub CaseOf : ℕ → Errno → Type 0
 CaseOf value r = (e : Errno) → value ≡ numberOf e → r ≡ e
-
--- a name, then zeros up to 14 bytes
-abbrev pub padded : List ℕ → List ℕ
-padded name = name ++ replicate (14 - length name) 0
 
 -- the name of an errno value: r is its length; for any other number r is 0, and the buffer holds what it held
 pub record NameShown (value : ℕ) (entry exit : Lent) (r : ℕ) : Type 0 where

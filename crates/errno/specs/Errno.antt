@@ -1,7 +1,8 @@
 -- The table of refusals (RULES.md, "Refusals"): the number and the name of each of the eight cases.
 -- Assumes nothing.
-use Prim.Native.Nat.{ℕ}
-use mathlib.Core.List.{List, [], _∷_}
+use Prim.Native.Nat.{ℕ, _-_}
+use mathlib.Core.List.{List, [], _∷_, _++_}
+use lib.ListN.{length, replicate}
 use Rattle.errno.specs.declared.Errno.{Errno}
 use Rattle.errno.specs.Ascii.{ascii}
 use Rattle.errno.specs.declared.Errno.the-variants.{Enoent, Ebusy, Eexist, Enodev, Einval, Enospc, Eaddrinuse, Eaddrnotavail}
@@ -27,6 +28,10 @@ nameOf Einval = ascii "EINVAL"
 nameOf Enospc = ascii "ENOSPC"
 nameOf Eaddrinuse = ascii "EADDRINUSE"
 nameOf Eaddrnotavail = ascii "EADDRNOTAVAIL"
+
+-- a name, then zeros up to 14 bytes
+abbrev pub padded : List ℕ → List ℕ
+padded name = name ++ replicate (14 - length name) 0
 
 -- the eight cases by ascending number, as the table has them
 unfoldable pub cases : List Errno

@@ -2,10 +2,8 @@
 //
 // Rests on nothing. Crates that refuse say why by an `Errno`.
 ghost use mathlib.Core.Path.{_≡_};
-ghost use Prim.Native.Nat.{_-_};
-ghost use mathlib.Core.List.{_++_};
-ghost use lib.ListN.{length, replicate};
-ghost use Rattle.errno.specs.Errno.{numberOf, nameOf, rowOf};
+ghost use lib.ListN.{length};
+ghost use Rattle.errno.specs.Errno.{numberOf, nameOf, padded, rowOf};
 
 // Why a request is refused.
 pub enum Errno {
@@ -101,7 +99,7 @@ pub fn number(e: Errno) -> u8
 
 // The name of a case, as an answer line shows it.
 pub fn name(e: Errno) -> Ascii
-    ensures { λ r. ⌜ (r .len ≡ length (nameOf e)) × (r .bytes ≡ nameOf e ++ replicate (14 - length (nameOf e)) 0) ⌝ }
+    ensures { λ r. ⌜ (r .len ≡ length (nameOf e)) × (r .bytes ≡ padded (nameOf e)) ⌝ }
 {
     let at = row(e);
     let entry = TABLE[at];

@@ -9,7 +9,7 @@ use lib.Dec.{eqb}
 use lib.ListN.{length, replicate, length-append, length-replicate}
 use borrow.Author.Tests.{eqb-true, eq-eqb, not-false}
 use Rattle.rules.specs.State.{State, queues}
-use Rattle.rules.specs.Queues.{dueAt, remaining, move, moves, sweepFrom, sweep, mostMoves, movesUsed}
+use Rattle.rules.specs.Queues.{dueAt, remaining, move, moves, mostMoves, movesUsed}
 use Rattle.rules.specs.Sweeps.{sweptFrom, swept, moveEach, EachDue, Sweep}
 use Rattle.rules.proofs.Sums.{sum-le, sumFrom, sum-from-cong, sum-all}
 use Rattle.rules.proofs.Moves.{due-here, due-two, spent-at, idle-due, moves-other, remaining-moves, remaining-none}
@@ -19,6 +19,15 @@ use Rattle.rules.proofs.Moves.{due-here, due-two, spent-at, idle-due, m
 -- moves of a queue leave what is due of those after it
 ahead-same : (m n k : ℕ) (s : State) → sumFrom n (suc k) (dueAt (moves m k s)) ≡ sumFrom n (suc k) (dueAt s)
 ahead-same m n k s = sum-from-cong n (suc k) (dueAt (moves m k s)) (dueAt s) (λ j l. moves-other m k j s (λ e. omega arith))
+
+-- the state after a sweep of the n queues from k on with b moves to make: each queue is finished before the next
+unfoldable pub sweepFrom : ℕ → ℕ → ℕ → State → State
+sweepFrom zero k b s = s
+sweepFrom (suc n) k b s = sweepFrom n (suc k) (b - min b (dueAt s k)) (moves (min b (dueAt s k)) k s)
+
+-- the state after a sweep of all queues
+unfoldable pub sweep : ℕ → State → State
+sweep b s = sweepFrom queues 0 (min b mostMoves) s
 
 -- a sweep lowers the moves remaining by the smaller of its budget and what its queues need
 remaining-sweep : (n k b : ℕ) (s : State) → k + n ≤ queues → remaining (sweepFrom n k b s) + min b (sumFrom n k (dueAt s)) ≡ remaining s

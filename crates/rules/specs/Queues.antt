@@ -114,18 +114,9 @@ unfoldable pub moves : ℕ → ℕ → State → State
 moves zero q s = s
 moves (suc n) q s = moves n q (move q s)
 
--- the state after a sweep of the n queues from k on with b moves to make: each queue is finished before the next
-unfoldable pub sweepFrom : ℕ → ℕ → ℕ → State → State
-sweepFrom zero k b s = s
-sweepFrom (suc n) k b s = sweepFrom n (suc k) (b - min b (dueAt s k)) (moves (min b (dueAt s k)) k s)
-
 -- a larger budget is taken as this one
 abbrev pub mostMoves : ℕ
 mostMoves = 131072
-
--- the state after a sweep of all queues
-unfoldable pub sweep : ℕ → State → State
-sweep b s = sweepFrom queues 0 (min b mostMoves) s
 
 -- the moves that a sweep makes
 unfoldable pub movesUsed : ℕ → State → ℕ
