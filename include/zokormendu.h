@@ -167,7 +167,7 @@ uint8_t zk_masks(const uint64_t *words, const uint8_t *drivers, uint64_t hi, uin
 /*
  * Lists a matrix by ascending queue from a place (APID * 256 + APQI) on, whole lines only, as many as fit; 0, ENOENT or
  * ENOSPC. *written is the number of bytes; the bytes after them stay as they were. *next is the place to go on from, and
- * ZK_QUEUES where nothing is left.
+ * ZK_QUEUES where nothing is left. A refused call leaves both as they were.
  */
 uint8_t zk_list(const uint64_t *words, const uint8_t *drivers, uint64_t hi, uint64_t lo, uint8_t matrix, size_t place,
                 uint8_t *buffer, size_t length, size_t *written, size_t *next);

@@ -13,7 +13,7 @@ use Rattle.assign.proofs.Laws.{by-tests}
 use Rattle.assign.proofs.admitted.Statement.{statement}
 use Rattle.assign.proofs.admitted.Tie as tie
 
--- the tests are found by congruence, so that another order of them fails as a fact
+-- the first test is found by congruence, so that another order of them fails as a fact
 returns : tie.Need-returns
 returns c = λ qs t.
     let a = c .before .before .args in
@@ -23,16 +23,14 @@ returns c = λ qs t.
 returns-2 : tie.Need-returns-2
 returns-2 c = λ qs t.
     let a = c .before .before .before .before .args in
-    let host : false ≡ someBelow queues (both (queuesOf (a .wanted)) (reserved (hostIn (a .words .now)))) = cc in
-    let other : true ≡ someBelow queues (both (queuesOf (a .wanted)) (assignedElsewhere (a .slot) (deviceIn (a .words .now)))) = cc in
-    by-tests (queuesOf (a .wanted)) (a .slot) (a .words .now) qs t false true host other
+    by-tests (queuesOf (a .wanted)) (a .slot) (a .words .now) qs t false true (sym (c .before .before .if1 .left) ∙ c .before .before .before .reserved .ensures)
+    (sym (c .if2 .taken) ∙ c .before .taken .ensures)
 
 returns-3 : tie.Need-returns-3
 returns-3 c = λ qs t.
     let a = c .before .before .before .before .args in
-    let host : false ≡ someBelow queues (both (queuesOf (a .wanted)) (reserved (hostIn (a .words .now)))) = cc in
-    let other : false ≡ someBelow queues (both (queuesOf (a .wanted)) (assignedElsewhere (a .slot) (deviceIn (a .words .now)))) = cc in
-    by-tests (queuesOf (a .wanted)) (a .slot) (a .words .now) qs t false false host other
+    by-tests (queuesOf (a .wanted)) (a .slot) (a .words .now) qs t false false (sym (c .before .before .if1 .left) ∙ c .before .before .before .reserved .ensures)
+    (sym (c .if2 .left) ∙ c .before .taken .ensures)
 
 pub admitted-spec : {M : Type 1} → statement M
 admitted-spec = tie.close (tie.spec (λ c κs. search needs) returns (λ c κs. search needs) returns-2 returns-3)
