@@ -22,9 +22,9 @@ use Rattle.rules.specs.declared.Kind.the-variants.{Adapter, Domain, Control}
 use Rattle.rules.specs.State.{State, slots, queues, inProduct}
 use Rattle.rules.specs.Queues.{reserved}
 use Rattle.rules.specs.Commands.{numbersOf, withNumbers, withDevice, single, onDevice, slotOf, limitOf, reading, assignAt, adding, paired, assignedElsewhere, assign}
-use Rattle.record.specs.Carried.{CarriedWords}
-use Rattle.record.specs.Layout.{wordCount, four, maskAt, deviceIn, limitsIn, hostIn, stateIn, wordsOf, putFour, putNumbers, deviceAt, kindAt}
-use Rattle.record.proofs.Laws.{cond-below, device-there, numbers-there, words-of, put-same, read-numbers, refused-carried}
+use Rattle.layout.specs.Carried.{CarriedWords}
+use Rattle.layout.specs.Layout.{wordCount, four, maskAt, deviceIn, limitsIn, hostIn, stateIn, wordsOf, putFour, putNumbers, deviceAt, kindAt}
+use Rattle.layout.proofs.Laws.{cond-below, device-there, numbers-there, words-of, put-same, read-numbers, refused-carried}
 use Rattle.lookup.proofs.Found.{known}
 use Rattle.rules.specs.Refusals.{RefusedExactly}
 use Rattle.rules.proofs.Refusals.{absorbed, refused-exactly}

@@ -15,9 +15,9 @@ use Rattle.rules.specs.declared.Answer.the-variants.{Done, Refused}
 use Rattle.rules.specs.State.{State}
 use Rattle.rules.specs.Commands.{slotOf, numbersOf, adding, assign, unassign}
 use Rattle.rules.specs.Refusals.{RefusedExactly}
-use Rattle.record.specs.Layout.{stateIn, limitsIn, hostIn, deviceIn, putNumbers, wordsOf}
-use Rattle.record.specs.Lent.{Lent}
-use Rattle.record.specs.Carried.{CarriedWords, Obeys}
+use Rattle.layout.specs.Layout.{stateIn, limitsIn, hostIn, deviceIn, putNumbers, wordsOf}
+use Rattle.layout.specs.Lent.{Lent}
+use Rattle.layout.specs.Carried.{CarriedWords, Obeys}
 
 -- the value of a text's number; bad text has none, and 0 stands for it
 unfoldable pub value : Outcome ℕ → ℕ

@@ -2,11 +2,11 @@
 //
 // Rests on errno, mask, number, product, rules, record and lookup.
 use errno::Errno;
+use layout::SLOTS;
+use layout::Words;
 use mask::Mask;
 use number::Number;
 use product::Product;
-use record::SLOTS;
-use record::Words;
 use rules::Answer;
 use rules::Id;
 use rules::Kind;
@@ -17,8 +17,8 @@ ghost use Rattle.mask.specs.Bits.{someBelow, both};
 ghost use Rattle.rules.specs.State.{slots, queues};
 ghost use Rattle.rules.specs.Queues.{reserved};
 ghost use Rattle.rules.specs.Commands.{assignNumber, unassignNumber, assignAt, unassignAt, paired, limitOf};
-ghost use Rattle.record.specs.Lent.{limits, host, devices};
-ghost use Rattle.record.specs.Carried.{Obeys};
+ghost use Rattle.layout.specs.Lent.{limits, host, devices};
+ghost use Rattle.layout.specs.Carried.{Obeys};
 ghost use Rattle.product.specs.Meet.{queuesOf};
 ghost use Rattle.assign.specs.Numbers.{Assigns, Unassigns, assignedNumber, unassignedNumber, assignedAt, Admits};
 
@@ -65,9 +65,9 @@ fn unassign_number(words: &mut Words, kind: Kind, id: Id, number: u16) -> Answer
     if !in_range(words, kind, number) {
         return Answer::Refused(Errno::Enodev);
     }
-    record::hold_words(words);
+    layout::hold_words(words);
     let m = record::numbers(words, slot, kind);
-    record::put_numbers(words, slot, kind, m.without((number % 256) as u8));
+    store::put_numbers(words, slot, kind, m.without((number % 256) as u8));
     Answer::Done
 }
 
@@ -94,7 +94,7 @@ fn assign_at(words: &mut Words, kind: Kind, slot: usize, number: u8) -> Answer
     requires { ⌜ slot < slots ⌝ }
     ensures { λ r. ⌜ Obeys (assignAt kind number slot) (assignedAt kind slot number) (words .entry) (words .exit) r ⌝ }
 {
-    record::hold_words(words);
+    layout::hold_words(words);
     let m = record::numbers(words, slot, kind);
     if m.has(number) {
         return Answer::Done;
@@ -103,7 +103,7 @@ fn assign_at(words: &mut Words, kind: Kind, slot: usize, number: u8) -> Answer
     match admitted(words, slot, wanted) {
         Answer::Refused(e) => Answer::Refused(e),
         Answer::Done => {
-            record::put_numbers(words, slot, kind, m.with(number));
+            store::put_numbers(words, slot, kind, m.with(number));
             Answer::Done
         }
     }

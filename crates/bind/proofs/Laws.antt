@@ -20,8 +20,8 @@ use Rattle.rules.specs.Queues.{reserved, configured, targetOf, moved, after, du
 use Rattle.rules.proofs.Products.{queue-split, in-product, queue-apid}
 use Rattle.rules.proofs.Sums.{sum-none, sum-more, sumFrom, sum-split}
 use Rattle.rules.proofs.Sweeps.{sweepFrom, sweep, remaining-swept, sweeping}
-use Rattle.record.specs.Layout.{stateIn, hostIn, configIn, driverOf, byteOf}
-use Rattle.record.proofs.Laws.{driver-of-byte, read-rebound}
+use Rattle.layout.specs.Layout.{stateIn, hostIn, configIn, driverOf, byteOf}
+use Rattle.layout.proofs.Laws.{driver-of-byte, read-rebound}
 use Rattle.bind.specs.declared.Swept.{Swept}
 use Rattle.bind.specs.Moves.{bytesAfter, moveBytes, movesBytes, sweepBytes, Moving, Sweeping}
 

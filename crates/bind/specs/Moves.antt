@@ -15,8 +15,8 @@ use Rattle.rules.specs.declared.Moved.the-variants.{Idle, Released, BoundHost, 
 use Rattle.rules.specs.State.{queues}
 use Rattle.rules.specs.Queues.{moveAnswer, move, dueAt, mostMoves, Remaining}
 use Rattle.rules.specs.Sweeps.{Sweep}
-use Rattle.record.specs.Layout.{stateIn, byteOf}
-use Rattle.record.specs.Lent.{Lent}
+use Rattle.layout.specs.Layout.{stateIn, byteOf}
+use Rattle.layout.specs.Lent.{Lent}
 use Rattle.bind.specs.declared.Swept.{Swept}
 
 -- the bytes after a move of queue n that answered m: an idle move writes nothing

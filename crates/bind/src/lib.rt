@@ -1,10 +1,10 @@
 // Where queues belong: the target of a queue, its moves, the moves remaining and sweeps.
 //
 // Rests on mask, rules and record.
+use layout::Drivers;
+use layout::Words;
 use mask::Apid;
 use mask::Apqi;
-use record::Drivers;
-use record::Words;
 use rules::Driver;
 use rules::Moved;
 ghost use mathlib.Core.Path.{_≡_};
@@ -12,7 +12,7 @@ ghost use Prim.Native.Nat.{_<_, _≤_};
 ghost use mathlib.Core.Bool.{_&&_};
 ghost use Rattle.rules.specs.Queues.{reserved, targetOf, moved, due, dueAt};
 ghost use Rattle.rules.specs.State.{queues, apqn};
-ghost use Rattle.record.specs.Lent.{host, config, state};
+ghost use Rattle.layout.specs.Lent.{host, config, state};
 ghost use Rattle.bind.specs.Moves.{movesBytes, finishedBytes, Moves, Sweeps, Remains};
 
 // A larger budget is taken as this one: two moves of each queue.
@@ -63,7 +63,7 @@ fn reserved(words: &Words, adapter: Apid, domain: Apqi) -> bool
 pub fn move_queue(words: &Words, drivers: &mut Drivers, adapter: Apid, domain: Apqi) -> Moved
     ensures { λ r. ⌜ Moves (apqn adapter domain) (words .entry) (drivers .entry) (drivers .exit) r ⌝ }
 {
-    record::hold_drivers(drivers);
+    layout::hold_drivers(drivers);
     let m = moved_by(
         record::driver(drivers, adapter, domain),
         target(words, adapter, domain),
@@ -71,13 +71,13 @@ pub fn move_queue(words: &Words, drivers: &mut Drivers, adapter: Apid, domain: A
     match m {
         Moved::Idle => {}
         Moved::Released => {
-            record::put_driver(drivers, adapter, domain, Driver::Unbound);
+            store::put_driver(drivers, adapter, domain, Driver::Unbound);
         }
         Moved::BoundHost => {
-            record::put_driver(drivers, adapter, domain, Driver::Host);
+            store::put_driver(drivers, adapter, domain, Driver::Host);
         }
         Moved::BoundPassthrough => {
-            record::put_driver(drivers, adapter, domain, Driver::Passthrough);
+            store::put_driver(drivers, adapter, domain, Driver::Passthrough);
         }
     }
     m
@@ -145,7 +145,7 @@ pub fn remaining(words: &Words, drivers: &Drivers) -> u32
     ensures { λ r. ⌜ Remains (words .entry) (drivers .entry) r ⌝ }
 {
     let mut sum: u32 = 0;
-    for queue in 0..record::QUEUES {
+    for queue in 0..layout::QUEUES {
         let need = need_at(words, drivers, queue);
         sum += need.due;
     }
@@ -156,7 +156,7 @@ pub fn remaining(words: &Words, drivers: &Drivers) -> u32
 pub fn sweep(words: &Words, drivers: &mut Drivers, budget: u32) -> Swept
     ensures { λ r. ⌜ Sweeps budget (words .entry) (drivers .entry) (drivers .exit) r ⌝ }
 {
-    record::hold_drivers(drivers);
+    layout::hold_drivers(drivers);
     let most = if budget < MOST_MOVES {
         budget
     } else {
@@ -164,7 +164,7 @@ pub fn sweep(words: &Words, drivers: &mut Drivers, budget: u32) -> Swept
     };
     let mut left = most;
     let mut queue: usize = 0;
-    while queue < record::QUEUES {
+    while queue < layout::QUEUES {
         let need = need_at(words, drivers, queue);
         let n = need.due;
         let t = need.target;
@@ -213,5 +213,5 @@ fn finish(drivers: &mut Drivers, queue: usize, due: u32, target: Driver)
     if due == 0 {
         return;
     }
-    record::put_driver(drivers, adapter, domain, target);
+    store::put_driver(drivers, adapter, domain, target);
 }

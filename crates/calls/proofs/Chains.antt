@@ -14,8 +14,8 @@ use Rattle.rules.specs.State.{Limits, State, fresh}
 use Rattle.rules.specs.Queues as Queues
 use Rattle.rules.specs.Commands as Commands
 use Rattle.rules.specs.Commands.{answered, errnoOf, stateAfter}
-use Rattle.record.specs.Layout.{stateIn}
-use Rattle.record.specs.Carried.{Memory, memory, read, Carried}
+use Rattle.layout.specs.Layout.{stateIn}
+use Rattle.layout.specs.Carried.{Memory, memory, read, Carried}
 use Rattle.setup.specs.Fresh.{start, freshMemory}
 use Rattle.rules.specs.Sweeps.{swept, moveEach}
 use Rattle.devices.specs.Effects.{created, removed, opened, closed}

@@ -17,7 +17,7 @@ use Rattle.rules.specs.Queues.{Remaining, mostMoves}
 use Rattle.rules.specs.Sweeps.{Sweep}
 use Rattle.rules.specs.Commands as Commands
 use Rattle.rules.specs.Commands.{answered}
-use Rattle.record.specs.Carried.{Memory, read, onWords, Carried, CarriedWords}
+use Rattle.layout.specs.Carried.{Memory, read, onWords, Carried, CarriedWords}
 use Rattle.setup.specs.Fresh.{start, freshMemory}
 use Rattle.bind.specs.declared.Swept.{Swept}
 use Rattle.bind.specs.Moves.{Moving, Sweeping}

@@ -10,7 +10,7 @@ use Rattle.errno.specs.Errno.{numberOf, nameOf, padded}
 use Rattle.mask.specs.Bits.{Bits, bits, numbers}
 use Rattle.rules.specs.declared.Masks.{Masks}
 use Rattle.rules.specs.Commands.{answered}
-use Rattle.record.specs.Lent.{Lent}
+use Rattle.layout.specs.Lent.{Lent}
 use Rattle.bind.specs.declared.Swept.{Swept}
 use Rattle.guest.specs.declared.Shown.{Shown}
 use Rattle.listing.specs.declared.Listed.{Listed}

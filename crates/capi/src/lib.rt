@@ -3,11 +3,11 @@
 //
 // Rests on errno, mask, maskbytes, fields, rules, record and the crates whose functions it exports.
 use errno::Errno;
+use layout::Drivers;
+use layout::Words;
 use mask::Apid;
 use mask::Apqi;
 use mask::Mask;
-use record::Drivers;
-use record::Words;
 use rules::Id;
 use rules::Masks;
 use rules::Matrix;
@@ -20,8 +20,8 @@ ghost use lib.Dec.{eqb};
 ghost use Rattle.mask.specs.Bits.{bits};
 ghost use Rattle.fields.specs.Fields.{kindOf, configurationOf};
 ghost use Rattle.rules.specs.Commands.{create, remove, openDevice, closeDevice, setApmask, setAqmask};
-ghost use Rattle.record.specs.Lent.{state};
-ghost use Rattle.record.specs.Carried.{Obeys};
+ghost use Rattle.layout.specs.Lent.{state};
+ghost use Rattle.layout.specs.Carried.{Obeys};
 ghost use Rattle.setup.specs.Fresh.{Freshens};
 ghost use Rattle.devices.specs.Effects.{created, removed, opened, closed};
 ghost use Rattle.assign.specs.Numbers.{Assigns, Unassigns};

@@ -1,14 +1,14 @@
 // Calls the functions of the service, and prints what each answers. The expected output is made by tests/cases.py,
 // with a model in Python that is written from the rules (docs/RULES.md) and shares no code with the library.
 use guest::Shown;
+use layout::Drivers;
+use layout::QUEUES;
+use layout::WORDS;
+use layout::Words;
 use listing::Listed;
 use mask::Apid;
 use mask::Apqi;
 use mask::Mask;
-use record::Drivers;
-use record::QUEUES;
-use record::WORDS;
-use record::Words;
 use rules::Answer;
 use rules::Configuration;
 use rules::Driver;

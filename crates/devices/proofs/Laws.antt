@@ -10,8 +10,8 @@ use Rattle.errno.specs.declared.Errno.the-variants.{Eexist, Enospc}
 use Rattle.rules.specs.declared.Id.{Id}
 use Rattle.rules.specs.State.{State, slots}
 use Rattle.rules.specs.Commands.{slotOf, freeSlot, onDevice, withDevice, newDevice, create}
-use Rattle.record.specs.Layout.{deviceIn, stateIn}
-use Rattle.record.proofs.Laws.{cond-below, cond-past}
+use Rattle.layout.specs.Layout.{deviceIn, stateIn}
+use Rattle.layout.proofs.Laws.{cond-below, cond-past}
 use Rattle.lookup.proofs.Found.{known}
 
 -- the device is at slot p, and t says whether it is open

@@ -6,7 +6,7 @@ use mathlib.Core.Bool.{true, false}
 use mathlib.Core.List.{List}
 use Rattle.rules.specs.declared.Id.{Id}
 use Rattle.rules.specs.Commands.{slotOf, freeSlot}
-use Rattle.record.specs.Layout.{deviceIn, putDevice, putOpen, noId}
+use Rattle.layout.specs.Layout.{deviceIn, putDevice, putOpen, noId}
 
 -- the lowest free slot is given the id
 abbrev pub created : Id → List ℕ → List ℕ

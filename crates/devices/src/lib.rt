@@ -2,12 +2,12 @@
 //
 // Rests on errno, rules, record and lookup.
 use errno::Errno;
-use record::SLOTS;
-use record::Words;
+use layout::SLOTS;
+use layout::Words;
 use rules::Answer;
 use rules::Id;
 ghost use Rattle.rules.specs.Commands.{create, remove, openDevice, closeDevice};
-ghost use Rattle.record.specs.Carried.{Obeys};
+ghost use Rattle.layout.specs.Carried.{Obeys};
 ghost use Rattle.devices.specs.Effects.{created, removed, opened, closed};
 
 pub fn create(words: &mut Words, id: Id) -> Answer
@@ -20,8 +20,8 @@ pub fn create(words: &mut Words, id: Id) -> Answer
     if SLOTS <= slot {
         return Answer::Refused(Errno::Enospc);
     }
-    record::hold_words(words);
-    record::put_device(words, slot, true, id);
+    layout::hold_words(words);
+    store::put_device(words, slot, true, id);
     Answer::Done
 }
 
@@ -35,8 +35,8 @@ pub fn remove(words: &mut Words, id: Id) -> Answer
     if record::is_open(words, at) {
         return Answer::Refused(Errno::Ebusy);
     }
-    record::hold_words(words);
-    record::put_device(words, at, false, Id { hi: 0, lo: 0 });
+    layout::hold_words(words);
+    store::put_device(words, at, false, Id { hi: 0, lo: 0 });
     Answer::Done
 }
 
@@ -50,8 +50,8 @@ pub fn open(words: &mut Words, id: Id) -> Answer
     if record::is_open(words, slot) {
         return Answer::Refused(Errno::Ebusy);
     }
-    record::hold_words(words);
-    record::put_open(words, slot, true);
+    layout::hold_words(words);
+    store::put_open(words, slot, true);
     Answer::Done
 }
 
@@ -65,7 +65,7 @@ pub fn close(words: &mut Words, id: Id) -> Answer
     if !record::is_open(words, slot) {
         return Answer::Refused(Errno::Einval);
     }
-    record::hold_words(words);
-    record::put_open(words, slot, false);
+    layout::hold_words(words);
+    store::put_open(words, slot, false);
     Answer::Done
 }

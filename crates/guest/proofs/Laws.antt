@@ -13,7 +13,7 @@ use Rattle.rules.specs.declared.Id.{Id}
 use Rattle.rules.specs.State.{Device, inProduct}
 use Rattle.rules.specs.Queues.{passed, guestAdapters, guestDomains, usable}
 use Rattle.rules.specs.Commands.{slotOf}
-use Rattle.record.specs.Layout.{driverOf, configIn, deviceIn, stateIn}
+use Rattle.layout.specs.Layout.{driverOf, configIn, deviceIn, stateIn}
 use Rattle.guest.specs.Row.{missing, heldBack}
 use Rattle.guest.specs.Masks.{usableWith}
 

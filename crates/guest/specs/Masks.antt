@@ -13,7 +13,7 @@ use Rattle.rules.specs.declared.Matrix.{Matrix}
 use Rattle.rules.specs.State.{State, Device, slots}
 use Rattle.rules.specs.Queues.{matrixAdapters, matrixDomains, matrixControls, usable}
 use Rattle.rules.specs.Commands.{answered, slotOf}
-use Rattle.record.specs.Lent.{deviceWith}
+use Rattle.layout.specs.Lent.{deviceWith}
 use Rattle.guest.specs.declared.Shown.{Shown}
 
 -- the masks of a device's matrix

@@ -8,7 +8,7 @@ use lib.ListN.{getD}
 use lib.Dec.{eqb}
 use Rattle.mask.specs.Bits.{Bits, someBelow}
 use Rattle.rules.specs.Queues.{passed}
-use Rattle.record.specs.Layout.{driverOf}
+use Rattle.layout.specs.Layout.{driverOf}
 
 -- the queue of adapter a and domain d is wanted and not passed through
 unfoldable pub missing : List ℕ → Bits → ℕ → Bits

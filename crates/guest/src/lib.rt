@@ -2,13 +2,13 @@
 //
 // Rests on errno, mask, rules, record, product and lookup.
 use errno::Errno;
+use layout::Drivers;
+use layout::SLOTS;
+use layout::Words;
 use mask::Apid;
 use mask::Apqi;
 use mask::Mask;
 use product::Product;
-use record::Drivers;
-use record::SLOTS;
-use record::Words;
 use rules::Answer;
 use rules::Driver;
 use rules::Id;
@@ -24,7 +24,7 @@ ghost use Rattle.mask.specs.Bits.{bits};
 ghost use Rattle.rules.specs.State.{slots, apqn};
 ghost use Rattle.rules.specs.Queues.{passed};
 ghost use Rattle.rules.specs.Commands.{answered};
-ghost use Rattle.record.specs.Lent.{state, devices};
+ghost use Rattle.layout.specs.Lent.{state, devices};
 ghost use Rattle.guest.specs.Row.{heldBack, heldAt};
 ghost use Rattle.guest.specs.Masks.{HasMasks, Shows, usableWith};
 

@@ -1,10 +1,10 @@
 // The three guests of the kernel's document on vfio-ap, from a bare record to running; then the accident: a rehearsal guest asks for
 // the live queue, and is refused by name.
+use layout::Drivers;
+use layout::QUEUES;
+use layout::WORDS;
+use layout::Words;
 use mask::Mask;
-use record::Drivers;
-use record::QUEUES;
-use record::WORDS;
-use record::Words;
 use rules::Answer;
 use rules::Configuration;
 use rules::Id;

@@ -25,9 +25,9 @@ use Rattle.rules.specs.State.{HostMasks, slots, queues, inProduct}
 use Rattle.rules.specs.Queues.{reserved, configured}
 use Rattle.rules.specs.Commands.{reading, setHost, withHost, assignedElsewhere, answered, errnoOf, stateAfter, beyondLimits, stored, withConfig, configure}
 use Rattle.rules.proofs.Products.{elsewhere-anywhere}
-use Rattle.record.specs.Carried.{memory, Carried}
-use Rattle.record.specs.Layout.{apmaskAt, aqmaskAt, maskAt, deviceIn, limitsIn, configIn, stateIn, putFour, putConfig, wordsOf, unbind, takenAway}
-use Rattle.record.proofs.Laws.{words-of, carried-refused, carried-granted}
+use Rattle.layout.specs.Carried.{memory, Carried}
+use Rattle.layout.specs.Layout.{apmaskAt, aqmaskAt, maskAt, deviceIn, limitsIn, configIn, stateIn, putFour, putConfig, wordsOf, unbind, takenAway}
+use Rattle.layout.proofs.Laws.{words-of, carried-refused, carried-granted}
 use Rattle.host.specs.Masks.{maskOr, withMask, gone, configured as configuredBy}
 
 -- the mask of a text has four words, by what owning it tells

@@ -11,9 +11,9 @@ use Rattle.rules.specs.declared.Answer.{Answer}
 use Rattle.rules.specs.declared.Configuration.{Configuration}
 use Rattle.rules.specs.State.{queues}
 use Rattle.rules.specs.Commands.{configure}
-use Rattle.record.specs.Layout.{maskAt, putFour, wordsOf, apmaskAt, aqmaskAt, putConfig, unbind, takenAway}
-use Rattle.record.specs.Lent.{Lent}
-use Rattle.record.specs.Carried.{Memory, memory, ObeysBoth}
+use Rattle.layout.specs.Layout.{maskAt, putFour, wordsOf, apmaskAt, aqmaskAt, putConfig, unbind, takenAway}
+use Rattle.layout.specs.Lent.{Lent}
+use Rattle.layout.specs.Carried.{Memory, memory, ObeysBoth}
 
 -- the mask that a text was read as; bad text leaves the old one
 unfoldable pub maskOr : Bits → Outcome Bits → Bits

@@ -2,13 +2,13 @@
 //
 // Rests on errno, mask, masktext, product, rules, record and lookup.
 use errno::Errno;
+use layout::Drivers;
+use layout::QUEUES;
+use layout::SLOTS;
+use layout::Words;
 use mask::Apid;
 use mask::Apqi;
 use product::Product;
-use record::Drivers;
-use record::QUEUES;
-use record::SLOTS;
-use record::Words;
 use rules::Answer;
 use rules::Configuration;
 use rules::Driver;
@@ -18,8 +18,8 @@ ghost use mathlib.Core.Path.{_≡_};
 ghost use lib.ListN.{set};
 ghost use Rattle.rules.specs.State.{queues};
 ghost use Rattle.rules.specs.Commands.{setApmask, setAqmask};
-ghost use Rattle.record.specs.Layout.{unbind};
-ghost use Rattle.record.specs.Carried.{Obeys};
+ghost use Rattle.layout.specs.Layout.{unbind};
+ghost use Rattle.layout.specs.Carried.{Obeys};
 ghost use Rattle.product.specs.Meet.{queuesOf};
 ghost use Rattle.host.specs.Masks.{withApmask, withAqmask, gone, Configures};
 
@@ -39,8 +39,8 @@ pub fn set_apmask(words: &mut Words, text: &[u8]) -> Answer
     if lookup::taken(words, SLOTS, reserved) {
         return Answer::Refused(Errno::Eaddrinuse);
     }
-    record::hold_words(words);
-    record::put_apmask(words, m);
+    layout::hold_words(words);
+    store::put_apmask(words, m);
     Answer::Done
 }
 
@@ -60,8 +60,8 @@ pub fn set_aqmask(words: &mut Words, text: &[u8]) -> Answer
     if lookup::taken(words, SLOTS, wanted) {
         return Answer::Refused(Errno::Eaddrinuse);
     }
-    record::hold_words(words);
-    record::put_aqmask(words, m);
+    layout::hold_words(words);
+    store::put_aqmask(words, m);
     Answer::Done
 }
 
@@ -81,8 +81,8 @@ pub fn configure(words: &mut Words, drivers: &mut Drivers, configuration: Config
     if controls.exceeds_domain(record::max_domain(words)) {
         return Answer::Refused(Errno::Enodev);
     }
-    record::hold_words(words);
-    record::hold_drivers(drivers);
+    layout::hold_words(words);
+    layout::hold_drivers(drivers);
     let was = Product {
         adapters: record::configured_adapters(words),
         domains: record::configured_domains(words),
@@ -95,7 +95,7 @@ pub fn configure(words: &mut Words, drivers: &mut Drivers, configuration: Config
             domains: domains,
         },
     );
-    record::put_configuration(words, configuration);
+    store::put_configuration(words, configuration);
     Answer::Done
 }
 
@@ -124,5 +124,5 @@ fn unbind_gone(drivers: &mut Drivers, was: Product, is: Product, queue: usize)
     if is.has(adapter, domain) {
         return;
     }
-    record::put_driver(drivers, adapter, domain, Driver::Unbound);
+    store::put_driver(drivers, adapter, domain, Driver::Unbound);
 }

@@ -20,7 +20,7 @@ use Rattle.rules.specs.declared.Matrix.{Matrix}
 use Rattle.rules.specs.State.{State, queues, slots, inProduct}
 use Rattle.rules.specs.Commands.{answered, slotOf}
 use Rattle.rules.proofs.Products.{queue-apid, queue-apqi, in-product}
-use Rattle.record.specs.Layout.{stateIn, deviceIn}
+use Rattle.layout.specs.Layout.{stateIn, deviceIn}
 use Rattle.guest.specs.Masks.{HasMasks}
 use Rattle.listing.specs.Lines.{lineSize, hexDigit, lineOf, withLine, linesOf, setFrom, queuesAt, fitting, nextPlace}
 use Rattle.listing.specs.Listed.{Written, Listing, matrix, listErrno}

@@ -2,13 +2,13 @@
 //
 // Rests on errno, mask, rules, record, product, lookup and guest.
 use errno::Errno;
+use layout::Drivers;
+use layout::QUEUES;
+use layout::SLOTS;
+use layout::Words;
 use mask::Apid;
 use mask::Apqi;
 use product::Product;
-use record::Drivers;
-use record::QUEUES;
-use record::SLOTS;
-use record::Words;
 use rules::Answer;
 use rules::Id;
 use rules::Masks;
@@ -20,7 +20,7 @@ ghost use Rattle.errno.specs.Errno.{numberOf};
 ghost use Rattle.mask.specs.Bits.{bits};
 ghost use Rattle.rules.specs.State.{apqn, inProduct};
 ghost use Rattle.rules.specs.Commands.{answered};
-ghost use Rattle.record.specs.Lent.{state};
+ghost use Rattle.layout.specs.Lent.{state};
 ghost use Rattle.product.specs.Meet.{queuesOf};
 ghost use Rattle.listing.specs.Lines.{lineSize, hexDigit, withLine, queuesAt};
 ghost use Rattle.listing.specs.Listed.{Written, Listing};

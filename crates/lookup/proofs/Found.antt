@@ -10,8 +10,8 @@ use Rattle.errno.specs.declared.Errno.the-variants.{Enoent}
 use Rattle.rules.specs.declared.Id.{Id}
 use Rattle.rules.specs.State.{State, slots}
 use Rattle.rules.specs.Commands.{slotOf, onDevice}
-use Rattle.record.specs.Layout.{deviceIn, stateIn}
-use Rattle.record.proofs.Laws.{cond-below, cond-past}
+use Rattle.layout.specs.Layout.{deviceIn, stateIn}
+use Rattle.layout.proofs.Laws.{cond-below, cond-past}
 
 module _ (i : Id) (ws qs : List ℕ) (p : ℕ) (at : p ≡ slotOf i (deviceIn ws)) (next : ℕ → Outcome State) where
   -- the id is unknown

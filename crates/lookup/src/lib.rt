@@ -1,9 +1,9 @@
 // Looking through the devices of a record: the slot of an id, a free slot, and whether queues are assigned.
 //
 // Rests on errno, mask, product, rules and record.
+use layout::SLOTS;
+use layout::Words;
 use product::Product;
-use record::SLOTS;
-use record::Words;
 use rules::Id;
 use rules::Kind;
 ghost use mathlib.Core.Bool.{_&&_};
@@ -12,7 +12,7 @@ ghost use Rattle.mask.specs.Bits.{someBelow, both};
 ghost use Rattle.rules.specs.State.{queues};
 ghost use Rattle.rules.specs.Commands.{sameId, slotOf, freeSlot, product, assignedElsewhere};
 ghost use Rattle.product.specs.Meet.{queuesOf};
-ghost use Rattle.record.specs.Lent.{devices};
+ghost use Rattle.layout.specs.Lent.{devices};
 
 // The slot of the device with an id, or SLOTS where there is none.
 pub fn find(words: &Words, id: Id) -> usize

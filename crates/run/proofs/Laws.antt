@@ -17,8 +17,8 @@ use Rattle.rules.specs.declared.Moved.{Moved}
 use Rattle.rules.specs.State.{Limits, State, fresh}
 use Rattle.rules.specs.Queues.{moveAnswer, movedNumber, remaining}
 use Rattle.rules.specs.Commands.{answered, errnoOf, stateAfter}
-use Rattle.record.specs.Layout.{stateIn}
-use Rattle.record.specs.Carried.{Memory, memory, read, memoryAfter, Carried}
+use Rattle.layout.specs.Layout.{stateIn}
+use Rattle.layout.specs.Carried.{Memory, memory, read, memoryAfter, Carried}
 use Rattle.setup.specs.Fresh.{start, freshMemory}
 use Rattle.bind.specs.declared.Swept.{Swept}
 use Rattle.bind.specs.Moves.{moveBytes, Moving, Sweeping}

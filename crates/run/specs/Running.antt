@@ -13,8 +13,8 @@ use Rattle.rules.specs.Queues.{movedNumber, moveAnswer, remaining, mostMoves}
 use Rattle.rules.specs.Commands.{errnoOf}
 use Rattle.mask.specs.declared.Apid.{Apid}
 use Rattle.mask.specs.declared.Apqi.{Apqi}
-use Rattle.record.specs.Lent.{Lent}
-use Rattle.record.specs.Carried.{Memory, memory, read, memoryAfter}
+use Rattle.layout.specs.Lent.{Lent}
+use Rattle.layout.specs.Carried.{Memory, memory, read, memoryAfter}
 use Rattle.setup.specs.Fresh.{freshMemory}
 use Rattle.bind.specs.Moves.{moveBytes, sweepBytes}
 use Rattle.model.specs.Steps.{Step, queueOf, rule, afterAll, answers}

@@ -2,13 +2,13 @@
 //
 // Rests on errno, mask, rules, record, setup, bind, devices, assign, host, model, fields, encoding and calls. It calls the
 // functions that a caller would.
+use layout::Drivers;
+use layout::Words;
 use mask::Apid;
 use mask::Apqi;
-use record::Drivers;
-use record::Words;
 ghost use Prim.Native.Nat.{_≤_};
 ghost use lib.ListN.{length};
-ghost use Rattle.record.specs.Carried.{memory};
+ghost use Rattle.layout.specs.Carried.{memory};
 ghost use Rattle.encoding.specs.Encoding.{move, sweep};
 ghost use Rattle.run.specs.Running.{Stepped, StepsOnce, CarriesOut, Runs};
 

@@ -27,8 +27,8 @@ use Rattle.rules.specs.Commands.{errnoOf, stateAfter, sameId, firstFrom, slotOf
 use Rattle.rules.proofs.Sums.{sum-change, zero-sum}
 use Rattle.rules.proofs.Moves.{remaining-moves, rebound-other}
 use Rattle.rules.proofs.Products.{product-apid, product-apqi}
-use Rattle.record.specs.Layout.{wordsOf}
-use Rattle.record.proofs.Laws.{words-bits}
+use Rattle.layout.specs.Layout.{wordsOf}
+use Rattle.layout.proofs.Laws.{words-bits}
 use Rattle.model.specs.Steps.{Step, move, queueOf, answers, afterAll}
 use Rattle.listing.specs.Lines.{setFrom}
 use Rattle.settings.specs.Table.{maskWith, setBits, shown, maskOrNone, readMask, idOf, wordsWith, limited, unreserved, twoDevices, oneUnbound, new, adapter, domain, apmask, aqmask, config, adaptersIn, domainsIn, Settles, Every, table}

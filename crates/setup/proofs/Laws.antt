@@ -10,8 +10,8 @@ use Rattle.errno.specs.Outcome.{Outcome, granted, refused}
 use Rattle.errno.specs.declared.Errno.the-variants.{Einval}
 use Rattle.rules.specs.declared.Answer.the-variants.{Done, Refused}
 use Rattle.rules.specs.State.{State, fresh}
-use Rattle.record.specs.Carried.{Memory, read, Carried}
-use Rattle.record.proofs.Laws.{read-fresh, carried-refused, carried-granted}
+use Rattle.layout.specs.Carried.{Memory, read, Carried}
+use Rattle.layout.proofs.Laws.{read-fresh, carried-refused, carried-granted}
 use Rattle.setup.specs.Fresh.{start, freshMemory}
 
 module _ (a d : ℕ) where

@@ -9,9 +9,9 @@ use Rattle.errno.specs.Outcome.{Outcome, granted, refused}
 use Rattle.errno.specs.declared.Errno.the-variants.{Einval}
 use Rattle.rules.specs.declared.Answer.{Answer}
 use Rattle.rules.specs.State.{State, queues, fresh}
-use Rattle.record.specs.Layout.{freshWords}
-use Rattle.record.specs.Lent.{Lent}
-use Rattle.record.specs.Carried.{Memory, memory, ObeysBoth}
+use Rattle.layout.specs.Layout.{freshWords}
+use Rattle.layout.specs.Lent.{Lent}
+use Rattle.layout.specs.Carried.{Memory, memory, ObeysBoth}
 
 -- a fresh record of limits a and d, whatever was there; EINVAL for a limit above 255
 unfoldable pub start : ℕ → ℕ → State → Outcome State

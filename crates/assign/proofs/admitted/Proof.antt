@@ -7,7 +7,7 @@ use Rattle.mask.specs.Bits.{someBelow, both}
 use Rattle.rules.specs.State.{queues}
 use Rattle.rules.specs.Queues.{reserved}
 use Rattle.rules.specs.Commands.{assignedElsewhere}
-use Rattle.record.specs.Layout.{hostIn, deviceIn}
+use Rattle.layout.specs.Layout.{hostIn, deviceIn}
 use Rattle.product.specs.Meet.{queuesOf}
 use Rattle.assign.proofs.Laws.{by-tests}
 use Rattle.assign.proofs.admitted.Statement.{statement}

@@ -8,8 +8,8 @@ use Rattle.mask.specs.Bits.{Bits, included}
 use Rattle.mask.proofs.Laws.{mask-words}
 use Rattle.rules.specs.declared.Answer.{Answer}
 use Rattle.rules.specs.Commands.{assignAt, numbersOf, withDevice, withNumbers}
-use Rattle.record.specs.Layout.{deviceIn, stateIn}
-use Rattle.record.proofs.Laws.{refused-carried, done-carried}
+use Rattle.layout.specs.Layout.{deviceIn, stateIn}
+use Rattle.layout.proofs.Laws.{refused-carried, done-carried}
 use Rattle.product.specs.Meet.{queuesOf}
 use Rattle.assign.specs.Numbers.{assignedAt}
 use Rattle.assign.proofs.Laws.{same-words, assigned-already, new-number, refused-as, done-as, put-changed, read-changed}

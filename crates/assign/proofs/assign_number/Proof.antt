@@ -7,8 +7,8 @@ use borrow.Author.Needs.{needs}
 use Rattle.errno.specs.declared.Errno.the-variants.{Enoent, Enodev}
 use Rattle.mask.specs.Bits.{included}
 use Rattle.rules.specs.Commands.{assignAt, assignNumber}
-use Rattle.record.specs.Layout.{stateIn}
-use Rattle.record.proofs.Laws.{refused-carried, carried-as}
+use Rattle.layout.specs.Layout.{stateIn}
+use Rattle.layout.proofs.Laws.{refused-carried, carried-as}
 use Rattle.lookup.proofs.Found.{unknown}
 use Rattle.assign.specs.Numbers.{changed, assignedAt, assignedNumber}
 use Rattle.assign.proofs.Laws.{by-range, in-range-small}

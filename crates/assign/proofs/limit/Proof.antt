@@ -4,7 +4,7 @@ use mathlib.Core.Path.{sym, ap, _∙_}
 use borrow.Author.Needs.{needs}
 use Rattle.rules.specs.declared.Kind.{Kind}
 use Rattle.rules.specs.Commands.{limitOf}
-use Rattle.record.specs.Layout.{limitsIn}
+use Rattle.layout.specs.Layout.{limitsIn}
 use Rattle.assign.proofs.limit.Statement.{statement}
 use Rattle.assign.proofs.limit.Tie as tie
 

@@ -6,7 +6,7 @@ use Rattle.mask.specs.Bits.{included, noBits}
 use Rattle.rules.specs.State.{inProduct}
 use Rattle.rules.specs.declared.Kind.{Kind}
 use Rattle.rules.specs.Commands.{numbersOf, paired}
-use Rattle.record.specs.Layout.{deviceIn}
+use Rattle.layout.specs.Layout.{deviceIn}
 use Rattle.assign.proofs.Laws.{one-bit}
 use Rattle.assign.proofs.paired.Statement.{statement}
 use Rattle.assign.proofs.paired.Tie as tie

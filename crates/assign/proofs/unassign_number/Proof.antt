@@ -9,8 +9,8 @@ use Rattle.errno.specs.declared.Errno.the-variants.{Enoent, Enodev}
 use Rattle.mask.specs.Bits.{excluded}
 use Rattle.mask.proofs.Laws.{mask-words}
 use Rattle.rules.specs.Commands.{unassignNumber, numbersOf, withDevice, withNumbers}
-use Rattle.record.specs.Layout.{deviceIn, stateIn}
-use Rattle.record.proofs.Laws.{refused-carried, done-carried}
+use Rattle.layout.specs.Layout.{deviceIn, stateIn}
+use Rattle.layout.proofs.Laws.{refused-carried, done-carried}
 use Rattle.lookup.proofs.Found.{unknown}
 use Rattle.assign.specs.Numbers.{changed, unassignedNumber}
 use Rattle.assign.proofs.Laws.{by-range, in-range-small, put-changed, read-changed}

@@ -4,7 +4,7 @@ use mathlib.Core.Path.{ap, ap₂, _∙_}
 use denote.Ref.{now}
 use borrow.Author.Needs.{needs}
 use Rattle.rules.specs.Queues.{targetOf, due}
-use Rattle.record.specs.Layout.{hostIn, configIn}
+use Rattle.layout.specs.Layout.{hostIn, configIn}
 use Rattle.rules.proofs.Products.{queue-split}
 use Rattle.bind.proofs.Laws.{due-split}
 use Rattle.bind.proofs.need_at.Statement.{statement}

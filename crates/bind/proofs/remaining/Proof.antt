@@ -8,7 +8,7 @@ use Rattle.rules.specs.Queues.{dueAt, sumBelow, remaining, Remaining}
 use Rattle.rules.specs.State.{queues}
 use Rattle.rules.proofs.Sums.{sum-none, sum-more, sum-le}
 use Rattle.rules.proofs.Moves.{due-two, remaining-none}
-use Rattle.record.specs.Layout.{stateIn}
+use Rattle.layout.specs.Layout.{stateIn}
 use borrow.Author.Needs.{needs}
 use Rattle.bind.proofs.remaining.Statement.{statement}
 use Rattle.bind.proofs.remaining.Tie as tie

@@ -3,7 +3,7 @@
 use mathlib.Core.Path.{_≡_, sym, ap, _∙_}
 use denote.Ref.{now}
 use Rattle.mask.specs.Bits.{Bits}
-use Rattle.record.specs.Layout.{hostIn}
+use Rattle.layout.specs.Layout.{hostIn}
 use borrow.Author.Tests.{not-true, not-false}
 use borrow.Author.Needs.{needs}
 use native.Mathlib.Omega.{arith}

@@ -10,7 +10,7 @@ use borrow.Author.Tests.{lt-ltb, le-ltb}
 use Rattle.rules.specs.State.{queues}
 use Rattle.rules.specs.Queues.{dueAt, remaining, mostMoves}
 use Rattle.rules.proofs.Moves.{due-two}
-use Rattle.record.specs.Layout.{stateIn}
+use Rattle.layout.specs.Layout.{stateIn}
 use Rattle.bind.proofs.Laws.{Underway, finished, as-long, sweep-starts, sweep-goes-on, sweep-stops, made-fewer, sweep-ends, swept-by}
 use borrow.Author.Needs.{needs}
 use Rattle.bind.proofs.sweep.Statement.{statement}

@@ -11,7 +11,7 @@ use Rattle.rules.specs.declared.Driver.the-variants.{Unbound, Host, Passthrough
 use Rattle.rules.specs.State.{apqn}
 use Rattle.rules.specs.Queues.{reserved, targetOf}
 use Rattle.rules.proofs.Products.{in-product}
-use Rattle.record.specs.Lent.{host, config}
+use Rattle.layout.specs.Lent.{host, config}
 use Rattle.bind.proofs.Laws.{target-by}
 use borrow.Author.Needs.{needs}
 use Rattle.bind.proofs.target.Statement.{statement}

@@ -7,8 +7,8 @@ use mathlib.Core.Path.{sym, ap, _∙_}
 use borrow.Author.Needs.{needs}
 use Rattle.errno.specs.declared.Errno.the-variants.{Enoent, Einval}
 use Rattle.rules.specs.Commands.{slotOf, closeDevice, withDevice, withOpen}
-use Rattle.record.specs.Layout.{deviceIn, stateIn, putOpen}
-use Rattle.record.proofs.Laws.{refused-carried, done-carried, read-open}
+use Rattle.layout.specs.Layout.{deviceIn, stateIn, putOpen}
+use Rattle.layout.proofs.Laws.{refused-carried, done-carried, read-open}
 use Rattle.lookup.proofs.Found.{unknown}
 use Rattle.devices.specs.Effects.{closed}
 use Rattle.devices.proofs.Laws.{by-open}

@@ -8,8 +8,8 @@ use borrow.Author.Needs.{needs}
 use Rattle.errno.specs.declared.Errno.the-variants.{Enoent, Ebusy}
 use Rattle.rules.specs.State.{noDevice}
 use Rattle.rules.specs.Commands.{slotOf, remove, withDevice}
-use Rattle.record.specs.Layout.{deviceIn, stateIn, putDevice, noId}
-use Rattle.record.proofs.Laws.{refused-carried, done-carried, read-none}
+use Rattle.layout.specs.Layout.{deviceIn, stateIn, putDevice, noId}
+use Rattle.layout.proofs.Laws.{refused-carried, done-carried, read-none}
 use Rattle.lookup.proofs.Found.{unknown}
 use Rattle.devices.specs.Effects.{removed}
 use Rattle.devices.proofs.Laws.{by-open}

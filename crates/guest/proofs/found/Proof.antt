@@ -5,7 +5,7 @@ use Rattle.errno.specs.Errno.{numberOf}
 use Rattle.errno.specs.declared.Errno.the-variants.{Enoent}
 use Rattle.rules.specs.State.{slots}
 use Rattle.rules.specs.Commands.{answered}
-use Rattle.record.proofs.Laws.{cond-below, cond-past}
+use Rattle.layout.proofs.Laws.{cond-below, cond-past}
 use Rattle.guest.proofs.found.Statement.{statement}
 use Rattle.guest.proofs.found.Tie as tie
 

@@ -6,7 +6,7 @@ use Rattle.mask.specs.Bits.{both}
 use Rattle.rules.specs.declared.Matrix.{Matrix}
 use Rattle.rules.specs.Commands.{numbersOf}
 use Rattle.rules.specs.Queues.{guestDomains, guestControls, matrixAdapters, matrixDomains, matrixControls}
-use Rattle.record.specs.Layout.{stateIn, deviceIn}
+use Rattle.layout.specs.Layout.{stateIn, deviceIn}
 use Rattle.guest.proofs.Laws.{guest-adapters}
 use Rattle.guest.proofs.masks_at.Statement.{statement}
 use Rattle.guest.proofs.masks_at.Tie as tie

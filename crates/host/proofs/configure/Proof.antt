@@ -5,8 +5,8 @@ use mathlib.Core.Path.{refl, ap, _∙_}
 use borrow.Author.Needs.{needs}
 use Rattle.mask.specs.Bits.{Bits}
 use Rattle.rules.specs.State.{queues}
-use Rattle.record.specs.Layout.{unbind}
-use Rattle.record.proofs.Laws.{read-config}
+use Rattle.layout.specs.Layout.{unbind}
+use Rattle.layout.proofs.Laws.{read-config}
 use Rattle.host.proofs.Laws.{above, by-limits, gone-away, config-refused, config-done, adapters-words, domains-words, controls-words}
 use Rattle.host.proofs.configure.Statement.{statement}
 use Rattle.host.proofs.configure.Tie as tie

@@ -11,8 +11,8 @@ use Rattle.mask.specs.Bits.{bits}
 use Rattle.rules.specs.State.{inProduct}
 use Rattle.rules.specs.Queues.{reserved}
 use Rattle.rules.specs.Commands.{setApmask, withHost}
-use Rattle.record.specs.Layout.{hostIn, stateIn, apmaskAt}
-use Rattle.record.proofs.Laws.{refused-carried, done-carried, read-apmask}
+use Rattle.layout.specs.Layout.{hostIn, stateIn, apmaskAt}
+use Rattle.layout.proofs.Laws.{refused-carried, done-carried, read-apmask}
 use Rattle.host.specs.Masks.{withApmask}
 use Rattle.host.proofs.Laws.{bad-text, good-text, put-words, read-words, with-apmask}
 use Rattle.host.proofs.set_apmask.Statement.{statement}

@@ -11,8 +11,8 @@ use Rattle.mask.specs.Bits.{Bits, bits}
 use Rattle.rules.specs.State.{inProduct}
 use Rattle.rules.specs.Queues.{reserved}
 use Rattle.rules.specs.Commands.{setAqmask, withHost}
-use Rattle.record.specs.Layout.{hostIn, stateIn, aqmaskAt}
-use Rattle.record.proofs.Laws.{refused-carried, done-carried, read-aqmask}
+use Rattle.layout.specs.Layout.{hostIn, stateIn, aqmaskAt}
+use Rattle.layout.proofs.Laws.{refused-carried, done-carried, read-aqmask}
 use Rattle.host.specs.Masks.{withAqmask}
 use Rattle.host.proofs.Laws.{bad-text, good-text, put-words, read-words, with-aqmask}
 use Rattle.host.proofs.set_aqmask.Statement.{statement}

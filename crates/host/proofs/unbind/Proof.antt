@@ -8,7 +8,7 @@ use mathlib.Core.Path.{_≡_, refl, ap, _∙_}
 use lib.ListN.{set}
 use borrow.Author.Needs.{needs}
 use Rattle.rules.specs.State.{queues}
-use Rattle.record.specs.Layout.{unbind}
+use Rattle.layout.specs.Layout.{unbind}
 use Rattle.product.specs.Meet.{queuesOf}
 use Rattle.host.specs.Masks.{gone}
 use Rattle.host.proofs.Laws.{unbind-next}

@@ -6,7 +6,7 @@ use mathlib.Core.Path.{_≡_, sym, ap, _∙_}
 use lib.ListN.{set}
 use borrow.Author.Tests.{not-true, not-false}
 use borrow.Author.Needs.{needs}
-use Rattle.record.specs.Layout.{byteOf}
+use Rattle.layout.specs.Layout.{byteOf}
 use Rattle.product.specs.Meet.{queuesOf}
 use Rattle.rules.proofs.Products.{queue-split}
 use Rattle.host.proofs.Laws.{stays, goes}

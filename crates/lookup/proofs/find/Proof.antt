@@ -10,7 +10,7 @@ use Rattle.mask.specs.Bits.{Bits}
 use Rattle.rules.specs.declared.Id.{Id}
 use Rattle.rules.specs.Commands.{firstFrom, slotOf, sameId}
 use Rattle.rules.proofs.First.{turn-here, turn-next, turn-end}
-use Rattle.record.specs.Layout.{deviceIn}
+use Rattle.layout.specs.Layout.{deviceIn}
 use Rattle.lookup.proofs.find.Statement.{statement}
 use Rattle.lookup.proofs.find.Tie as tie
 

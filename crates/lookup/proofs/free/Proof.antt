@@ -9,7 +9,7 @@ use borrow.Author.Needs.{needs}
 use Rattle.mask.specs.Bits.{Bits}
 use Rattle.rules.specs.Commands.{firstFrom, freeSlot}
 use Rattle.rules.proofs.First.{turn-here, turn-next, turn-end}
-use Rattle.record.specs.Layout.{deviceIn}
+use Rattle.layout.specs.Layout.{deviceIn}
 use Rattle.lookup.proofs.free.Statement.{statement}
 use Rattle.lookup.proofs.free.Tie as tie
 

@@ -4,7 +4,7 @@ use mathlib.Core.Bool.{not, Bool·not-not}
 use mathlib.Core.Path.{sym, ap, _∙_}
 use borrow.Author.Needs.{needs}
 use Rattle.rules.specs.Commands.{numbersOf}
-use Rattle.record.specs.Layout.{deviceIn}
+use Rattle.layout.specs.Layout.{deviceIn}
 use Rattle.product.specs.Meet.{queuesOf}
 use Rattle.lookup.proofs.Laws.{met-none, met-product}
 use Rattle.lookup.proofs.shares.Statement.{statement}

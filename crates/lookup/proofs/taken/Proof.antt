@@ -11,7 +11,7 @@ use Rattle.mask.proofs.Laws.{some-intro}
 use Rattle.mask.specs.Bits.{someBelow}
 use Rattle.rules.proofs.Products.{taken-by}
 use Rattle.rules.specs.State.{slots}
-use Rattle.record.specs.Layout.{deviceIn}
+use Rattle.layout.specs.Layout.{deviceIn}
 use Rattle.product.specs.Meet.{queuesOf}
 use Rattle.lookup.proofs.Laws.{shared, none-next, and-yes, and-no}
 use Rattle.lookup.proofs.taken.Statement.{statement}

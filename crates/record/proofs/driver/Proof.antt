@@ -4,7 +4,7 @@ use Prim.Native.Nat.{_+_, _*_}
 use lib.ListN.{getD}
 use borrow.Author.Tests.{ne-eqb}
 use borrow.Author.Needs.{needs}
-use Rattle.record.specs.Layout.{driverOf}
+use Rattle.layout.specs.Layout.{driverOf}
 use Rattle.record.proofs.driver.Statement.{statement}
 use Rattle.record.proofs.driver.Tie as tie
 

@@ -3,7 +3,7 @@
 use native.Mathlib.Omega.{arith}
 use borrow.Author.Tests.{lt-ltb}
 use borrow.Author.Needs.{needs}
-use Rattle.record.specs.Layout.{configIn}
+use Rattle.layout.specs.Layout.{configIn}
 use Rattle.record.proofs.hardware_type.Statement.{statement}
 use Rattle.record.proofs.hardware_type.Tie as tie
 

@@ -3,7 +3,7 @@
 use borrow.Author.Tests.{lt-ltb, le-ltb}
 use borrow.Author.Needs.{needs}
 use Rattle.rules.specs.State.{noDevice}
-use Rattle.record.specs.Layout.{deviceIn}
+use Rattle.layout.specs.Layout.{deviceIn}
 use Rattle.record.proofs.id.Statement.{statement}
 use Rattle.record.proofs.id.Tie as tie
 

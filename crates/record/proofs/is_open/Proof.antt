@@ -3,7 +3,7 @@
 use borrow.Author.Tests.{lt-ltb, le-ltb}
 use borrow.Author.Needs.{needs}
 use Rattle.rules.specs.State.{noDevice}
-use Rattle.record.specs.Layout.{deviceIn, flag}
+use Rattle.layout.specs.Layout.{deviceIn, flag}
 use Rattle.record.proofs.is_open.Statement.{statement}
 use Rattle.record.proofs.is_open.Tie as tie
 

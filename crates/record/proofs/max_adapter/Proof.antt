@@ -1,7 +1,7 @@
 -- `max_adapter` meets its contract.
 -- Assumes nothing.
 use borrow.Author.Needs.{needs}
-use Rattle.record.specs.Layout.{limitsIn}
+use Rattle.layout.specs.Layout.{limitsIn}
 use Rattle.record.proofs.max_adapter.Statement.{statement}
 use Rattle.record.proofs.max_adapter.Tie as tie
 

@@ -1,7 +1,7 @@
 -- `max_domain` meets its contract.
 -- Assumes nothing.
 use borrow.Author.Needs.{needs}
-use Rattle.record.specs.Layout.{limitsIn}
+use Rattle.layout.specs.Layout.{limitsIn}
 use Rattle.record.proofs.max_domain.Statement.{statement}
 use Rattle.record.proofs.max_domain.Tie as tie
 

@@ -9,8 +9,8 @@ use Rattle.rules.specs.declared.Kind.{Kind}
 use Rattle.rules.specs.declared.Kind.the-variants.{Adapter, Domain, Control}
 use Rattle.rules.specs.State.{noDevice}
 use Rattle.rules.specs.Commands.{numbersOf}
-use Rattle.record.specs.Layout.{maskAt}
-use Rattle.record.proofs.Laws.{device-there, device-past, numbers-there, kind-small}
+use Rattle.layout.specs.Layout.{maskAt}
+use Rattle.layout.proofs.Laws.{device-there, device-past, numbers-there, kind-small}
 use Rattle.record.proofs.numbers.Statement.{statement}
 use Rattle.record.proofs.numbers.Tie as tie
 

@@ -4,7 +4,7 @@ use Prim.Native.Nat.{_-_}
 use native.Mathlib.Omega.{arith}
 use lib.ListN.{length}
 use denote.Ref.{now}
-use Rattle.record.specs.Carried.{memory}
+use Rattle.layout.specs.Carried.{memory}
 use Rattle.run.proofs.Laws.{Left, part-long, step-left, Going, starts, goes-on, ends-early, ends-full}
 use borrow.Author.Needs.{needs}
 use Rattle.run.proofs.carry_out.Statement.{statement}

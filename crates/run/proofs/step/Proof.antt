@@ -5,7 +5,7 @@ use mathlib.Core.Path.{_≡_, refl}
 use lib.ListN.{length, take, drop}
 use denote.Ref.{now}
 use borrow.Author.Needs.{needs}
-use Rattle.record.specs.Carried.{memory}
+use Rattle.layout.specs.Carried.{memory}
 use Rattle.model.specs.Steps.{create, remove, openIt, closeIt, assign, unassign, setApmask, setAqmask, configure, rule}
 use Rattle.calls.specs.Calls.{effect, creates, removes, opens, closes, assigns, unassigns, setsApmask, setsAqmask, configures}
 use Rattle.encoding.specs.Encoding.{sweep, requestOf}

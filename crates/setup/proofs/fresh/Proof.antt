@@ -8,8 +8,8 @@ use mathlib.Core.Path.{ap₂, _∙_}
 use borrow.Author.Needs.{needs}
 use mathlib.Core.List.{List}
 use Prim.Native.Nat.{ℕ}
-use Rattle.record.specs.Layout.{freshWords}
-use Rattle.record.specs.Carried.{memory}
+use Rattle.layout.specs.Layout.{freshWords}
+use Rattle.layout.specs.Carried.{memory}
 use Rattle.setup.proofs.Laws.{refuses, makes}
 use Rattle.setup.proofs.fresh.Statement.{statement}
 use Rattle.setup.proofs.fresh.Tie as tie
