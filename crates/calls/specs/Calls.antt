@@ -19,8 +19,9 @@ use Rattle.rules.specs.Commands as Commands
 use Rattle.rules.specs.Commands.{answered}
 use Rattle.layout.specs.Carried.{Memory, read, onWords, Carried, CarriedWords}
 use Rattle.setup.specs.Fresh.{start, freshMemory}
-use Rattle.bind.specs.declared.Swept.{Swept}
-use Rattle.bind.specs.Moves.{Moving, Sweeping}
+use Rattle.sweep.specs.declared.Swept.{Swept}
+use Rattle.bind.specs.Moves.{Moving}
+use Rattle.sweep.specs.Sweeps.{Sweeping}
 use Rattle.devices.specs.Effects.{created, removed, opened, closed}
 use Rattle.assign.specs.Numbers.{assigned, unassigned, Assigning}
 use Rattle.host.specs.Masks.{withApmask, withAqmask, configured}

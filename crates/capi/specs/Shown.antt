@@ -11,7 +11,7 @@ use Rattle.mask.specs.Bits.{Bits, bits, numbers}
 use Rattle.rules.specs.declared.Masks.{Masks}
 use Rattle.rules.specs.Commands.{answered}
 use Rattle.layout.specs.Lent.{Lent}
-use Rattle.bind.specs.declared.Swept.{Swept}
+use Rattle.sweep.specs.declared.Swept.{Swept}
 use Rattle.guest.specs.declared.Shown.{Shown}
 use Rattle.listing.specs.declared.Listed.{Listed}
 use Rattle.capi.specs.Numbered.{bit}

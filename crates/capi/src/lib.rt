@@ -26,7 +26,8 @@ ghost use Rattle.setup.specs.Fresh.{Freshens};
 ghost use Rattle.devices.specs.Effects.{created, removed, opened, closed};
 ghost use Rattle.assign.specs.Numbers.{Assigns, Unassigns};
 ghost use Rattle.host.specs.Masks.{withApmask, withAqmask, Configures};
-ghost use Rattle.bind.specs.Moves.{Moves, Sweeps, Remains};
+ghost use Rattle.bind.specs.Moves.{Moves};
+ghost use Rattle.sweep.specs.Sweeps.{Sweeps, Remains};
 ghost use Rattle.guest.specs.Masks.{Shows, usableWith};
 ghost use Rattle.listing.specs.Listed.{Listing};
 ghost use Rattle.capi.specs.Numbered.{Numbered, NumberedMove, idWith, queueWith, bit, matrixOf};
@@ -135,7 +136,7 @@ pub extern "C" fn zk_move(words: &Words, drivers: &mut Drivers, apid: u8, apqi: 
 pub extern "C" fn zk_remaining(words: &Words, drivers: &Drivers) -> u32
     ensures { λ r. ⌜ Remains (words .entry) (drivers .entry) r ⌝ }
 {
-    bind::remaining(words, drivers)
+    sweep::remaining(words, drivers)
 }
 
 // The moves used; more is then 1 where any remain, and 0 where none does.
@@ -143,7 +144,7 @@ pub extern "C" fn zk_remaining(words: &Words, drivers: &Drivers) -> u32
 pub extern "C" fn zk_sweep(words: &Words, drivers: &mut Drivers, budget: u32, more: &mut u8) -> u32
     ensures { λ r. ⌜ SweepShown (Sweeps budget (words .entry) (drivers .entry) (drivers .exit)) (more .exit) r ⌝ }
 {
-    let r = bind::sweep(words, drivers, budget);
+    let r = sweep::sweep(words, drivers, budget);
     *more = flag(r.more);
     r.used
 }

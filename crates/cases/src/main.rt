@@ -196,8 +196,8 @@ fn queues(words: &Words, drivers: &mut Drivers, letter: u8, s: &[u8]) {
     match letter {
         b'm' => moved(bind::move_queue(words, drivers, apid, apqi)),
         b't' => target(bind::target(words, apid, apqi)),
-        b's' => sweep(bind::sweep(words, drivers, (n % 4294967296) as u32)),
-        _ => number(bind::remaining(words, drivers) as u64),
+        b's' => sweep(sweep::sweep(words, drivers, (n % 4294967296) as u32)),
+        _ => number(sweep::remaining(words, drivers) as u64),
     }
 }
 
@@ -218,7 +218,7 @@ fn target(d: Driver) {
     }
 }
 
-fn sweep(r: bind::Swept) {
+fn sweep(r: sweep::Swept) {
     number(r.used as u64);
     print::text(b"moves remain");
     yes(r.more);

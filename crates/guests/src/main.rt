@@ -56,7 +56,7 @@ fn prepare(words: &mut Words, drivers: &mut Drivers) {
         b"configure 5,6 x 4,71,171,255",
         host::configure(words, drivers, partition()),
     );
-    let r = bind::sweep(words, drivers, 131072);
+    let r = sweep::sweep(words, drivers, 131072);
     print::text(b"sweep: ");
     print::decimal(r.used as u64);
     print::text(b" moves\n");

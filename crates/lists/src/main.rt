@@ -29,7 +29,7 @@ fn main() {
         print_answers(answers, n);
     }
     left(&words, &drivers);
-    let r = bind::sweep(&words, &mut drivers, 131072);
+    let r = sweep::sweep(&words, &mut drivers, 131072);
     print::number(b"sweep ", r.used as u64);
     left(&words, &drivers);
 }
@@ -49,7 +49,7 @@ fn one(answer: u8) {
 
 // The moves remaining, and the matrices of the devices.
 fn left(words: &Words, drivers: &Drivers) {
-    print::number(b"remaining ", bind::remaining(words, drivers) as u64);
+    print::number(b"remaining ", sweep::remaining(words, drivers) as u64);
     for n in 1..10u64 {
         device(words, drivers, n);
     }

@@ -20,8 +20,9 @@ use Rattle.rules.specs.Commands.{answered, errnoOf, stateAfter}
 use Rattle.layout.specs.Layout.{stateIn}
 use Rattle.layout.specs.Carried.{Memory, memory, read, memoryAfter, Carried}
 use Rattle.setup.specs.Fresh.{start, freshMemory}
-use Rattle.bind.specs.declared.Swept.{Swept}
-use Rattle.bind.specs.Moves.{moveBytes, Moving, Sweeping}
+use Rattle.sweep.specs.declared.Swept.{Swept}
+use Rattle.bind.specs.Moves.{moveBytes, Moving}
+use Rattle.sweep.specs.Sweeps.{Sweeping}
 use Rattle.model.specs.Steps.{Command, Step, queueOf, rule, afterAll}
 use Rattle.model.specs.Steps as Steps
 use Rattle.model.specs.Sweeps.{sweepSteps}

@@ -16,7 +16,8 @@ use Rattle.mask.specs.declared.Apqi.{Apqi}
 use Rattle.layout.specs.Lent.{Lent}
 use Rattle.layout.specs.Carried.{Memory, memory, read, memoryAfter}
 use Rattle.setup.specs.Fresh.{freshMemory}
-use Rattle.bind.specs.Moves.{moveBytes, sweepBytes}
+use Rattle.bind.specs.Moves.{moveBytes}
+use Rattle.sweep.specs.Sweeps.{sweepBytes}
 use Rattle.model.specs.Steps.{Step, queueOf, rule, afterAll, answers}
 use Rattle.model.specs.Steps as Steps
 use Rattle.model.specs.Sweeps.{sweepSteps}

@@ -89,6 +89,6 @@ fn make_sweep(words: &Words, drivers: &mut Drivers, budget: u32) -> u8
     ensures { λ r. ⌜ Stepped (sweep budget) (memory (now (words .entry)) (now (drivers .entry)))
         (memory (now (words .entry)) (now (drivers .exit))) r ⌝ }
 {
-    let swept = bind::sweep(words, drivers, budget);
+    let swept = sweep::sweep(words, drivers, budget);
     if swept.more { 1 } else { 0 }
 }

@@ -11,10 +11,10 @@ use Rattle.rules.specs.State.{queues}
 use Rattle.rules.specs.Queues.{dueAt, remaining, mostMoves}
 use Rattle.rules.proofs.Moves.{due-two}
 use Rattle.layout.specs.Layout.{stateIn}
-use Rattle.bind.proofs.Laws.{Underway, finished, as-long, sweep-starts, sweep-goes-on, sweep-stops, made-fewer, sweep-ends, swept-by}
+use Rattle.sweep.proofs.Laws.{Underway, finished, as-long, sweep-starts, sweep-goes-on, sweep-stops, made-fewer, sweep-ends, swept-by}
 use borrow.Author.Needs.{needs}
-use Rattle.bind.proofs.sweep.Statement.{statement}
-use Rattle.bind.proofs.sweep.Tie as tie
+use Rattle.sweep.proofs.sweep.Statement.{statement}
+use Rattle.sweep.proofs.sweep.Tie as tie
 
 abbrev Inv-loop : tie.InvT-loop
 Inv-loop words drivers₀ budget most left₀ queue₀ drivers left queue =

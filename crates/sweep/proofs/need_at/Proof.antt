@@ -6,9 +6,9 @@ use borrow.Author.Needs.{needs}
 use Rattle.rules.specs.Queues.{targetOf, due}
 use Rattle.layout.specs.Layout.{hostIn, configIn}
 use Rattle.rules.proofs.Products.{queue-split}
-use Rattle.bind.proofs.Laws.{due-split}
-use Rattle.bind.proofs.need_at.Statement.{statement}
-use Rattle.bind.proofs.need_at.Tie as tie
+use Rattle.sweep.proofs.Laws.{due-split}
+use Rattle.sweep.proofs.need_at.Statement.{statement}
+use Rattle.sweep.proofs.need_at.Tie as tie
 
 returns : tie.Need-returns
 returns c =

@@ -4,8 +4,8 @@ use native.Mathlib.Omega.{arith}
 use borrow.Author.Tests.{eq-eqb, ne-eqb}
 use Rattle.rules.proofs.Products.{queue-split}
 use borrow.Author.Needs.{needs}
-use Rattle.bind.proofs.finish.Statement.{statement}
-use Rattle.bind.proofs.finish.Tie as tie
+use Rattle.sweep.proofs.finish.Statement.{statement}
+use Rattle.sweep.proofs.finish.Tie as tie
 
 returns : tie.Need-returns
 returns c = rw (eq-eqb (c .before .args .due) 0 (c .if1 .taken))

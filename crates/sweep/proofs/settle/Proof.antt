@@ -2,11 +2,11 @@
 -- Assumes nothing.
 use native.Mathlib.Omega.{arith}
 use mathlib.Core.Path.{_≡_}
-use Rattle.bind.specs.Moves.{movesBytes}
+use Rattle.sweep.specs.Sweeps.{movesBytes}
 use Rattle.rules.proofs.Products.{queue-split}
 use borrow.Author.Needs.{needs}
-use Rattle.bind.proofs.settle.Statement.{statement}
-use Rattle.bind.proofs.settle.Tie as tie
+use Rattle.sweep.proofs.settle.Statement.{statement}
+use Rattle.sweep.proofs.settle.Tie as tie
 
 returns : tie.Need-returns
 unfolding movesBytes

@@ -10,8 +10,8 @@ use Rattle.rules.proofs.Sums.{sum-none, sum-more, sum-le}
 use Rattle.rules.proofs.Moves.{due-two, remaining-none}
 use Rattle.layout.specs.Layout.{stateIn}
 use borrow.Author.Needs.{needs}
-use Rattle.bind.proofs.remaining.Statement.{statement}
-use Rattle.bind.proofs.remaining.Tie as tie
+use Rattle.sweep.proofs.remaining.Statement.{statement}
+use Rattle.sweep.proofs.remaining.Tie as tie
 
 abbrev Inv-loop : tie.InvT-loop
 Inv-loop words drivers sum₀ queue₀ sum queue = (queue ≤ queues) × (sum ≡ sumBelow queue (dueAt (stateIn words drivers)))
