@@ -1,13 +1,9 @@
--- What crosses to C as a number: answers, ids, queues, flags and matrices.
+-- What crosses to C as a number: answers, ids and queues.
 -- Assumes nothing.
 use Prim.Native.Nat.{ℕ, _+_, _*_}
-use mathlib.Core.Bool.{Bool, cond}
 use mathlib.Core.Path.{_≡_}
-use lib.Dec.{eqb}
 use Rattle.rules.specs.declared.Answer.{Answer}
 use Rattle.rules.specs.declared.Id.{Id}
-use Rattle.rules.specs.declared.Matrix.{Matrix}
-use Rattle.rules.specs.declared.Matrix.the-variants.{Assigned, Guest}
 use Rattle.rules.specs.declared.Moved.{Moved}
 use Rattle.rules.specs.Queues.{movedNumber}
 use Rattle.rules.specs.Commands.{answered}
@@ -33,11 +29,3 @@ idWith hi lo = record { hi = hi; lo = lo }
 -- the queue of an adapter and a domain
 abbrev pub queueWith : ℕ → ℕ → ℕ
 queueWith apid apqi = apid * 256 + apqi
-
--- a flag
-unfoldable pub bit : Bool → ℕ
-bit b = cond b 1 0
-
--- a matrix: 0 is what is assigned, any other what the guest gets
-unfoldable pub matrixOf : ℕ → Matrix
-matrixOf n = cond (eqb n 0) Assigned Guest

@@ -1,23 +1,16 @@
 // The C interface: include/zokormendu.h has the declarations. Each function takes its arguments apart and calls the
 // library's function of the same name.
 //
-// Rests on errno, mask, maskbytes, fields, rules, record and the crates whose functions it exports.
-use errno::Errno;
+// Rests on mask, fields, rules, layout, shown and the crates whose functions it exports.
+use fields::CONFIGURATION_BYTES;
 use layout::Drivers;
 use layout::Words;
 use mask::Apid;
 use mask::Apqi;
-use mask::Mask;
 use rules::Id;
-use rules::Masks;
-use rules::Matrix;
+use shown::MASKS_BYTES;
+use shown::NAME_BYTES;
 ghost use mathlib.Core.Path.{_≡_};
-ghost use mathlib.Core.Bool.{cond};
-ghost use Prim.Native.Nat.{_+_, _≤_};
-ghost use lib.ListN.{length};
-ghost use lib.Seq.{paste};
-ghost use lib.Dec.{eqb};
-ghost use Rattle.mask.specs.Bits.{bits};
 ghost use Rattle.fields.specs.Fields.{kindOf, configurationOf};
 ghost use Rattle.rules.specs.Commands.{create, remove, openDevice, closeDevice, setApmask, setAqmask};
 ghost use Rattle.layout.specs.Lent.{state};
@@ -30,8 +23,8 @@ ghost use Rattle.bind.specs.Moves.{Moves};
 ghost use Rattle.sweep.specs.Sweeps.{Sweeps, Remains};
 ghost use Rattle.guest.specs.Masks.{Shows, usableWith};
 ghost use Rattle.listing.specs.Listed.{Listing};
-ghost use Rattle.capi.specs.Numbered.{Numbered, NumberedMove, idWith, queueWith, bit, matrixOf};
-ghost use Rattle.capi.specs.Shown.{SweepShown, maskBytes, masksBytes, MasksShown, ListShown, CaseOf, NameShown};
+ghost use Rattle.capi.specs.Numbered.{Numbered, NumberedMove, idWith, queueWith};
+ghost use Rattle.shown.specs.Shown.{bit, matrixOf, SweepShown, MasksShown, ListShown, NameShown};
 
 // Makes the lent memory a fresh record.
 #[no_mangle]
@@ -116,7 +109,7 @@ pub extern "C" fn zk_set_aqmask(words: &mut Words, text: &[u8]) -> u8
 pub extern "C" fn zk_configure(
     words: &mut Words,
     drivers: &mut Drivers,
-    configuration: &[u8; 352],
+    configuration: &[u8; CONFIGURATION_BYTES],
 ) -> u8
     ensures { λ r. ⌜ Numbered (Configures (configurationOf (now (configuration .entry)))
         (words .entry) (words .exit) (drivers .entry) (drivers .exit)) r ⌝ }
@@ -144,9 +137,7 @@ pub extern "C" fn zk_remaining(words: &Words, drivers: &Drivers) -> u32
 pub extern "C" fn zk_sweep(words: &Words, drivers: &mut Drivers, budget: u32, more: &mut u8) -> u32
     ensures { λ r. ⌜ SweepShown (Sweeps budget (words .entry) (drivers .entry) (drivers .exit)) (more .exit) r ⌝ }
 {
-    let r = sweep::sweep(words, drivers, budget);
-    *more = flag(r.more);
-    r.used
+    shown::sweep(words, drivers, budget, more)
 }
 
 // 1 where the guest of the device can use the queue now, else 0.
@@ -161,7 +152,7 @@ pub extern "C" fn zk_usable(
 ) -> u8
     ensures { λ r. ⌜ r ≡ bit (usableWith (idWith hi lo) (state (words .entry) (drivers .entry)) (queueWith apid apqi)) ⌝ }
 {
-    flag(guest::usable(
+    shown::flag(guest::usable(
         words,
         drivers,
         Id { hi: hi, lo: lo },
@@ -178,20 +169,18 @@ pub extern "C" fn zk_masks(
     hi: u64,
     lo: u64,
     matrix: u8,
-    out: &mut [u8; 96],
+    out: &mut [u8; MASKS_BYTES],
 ) -> u8
     ensures { λ r. ⌜ MasksShown (Shows (state (words .entry) (drivers .entry)) (idWith hi lo) (matrixOf matrix))
         (out .entry) (out .exit) r ⌝ }
 {
-    let shown = guest::masks(words, drivers, Id { hi: hi, lo: lo }, matrix_of(matrix));
-    let answer = shown.answer;
-    let e = rules::answer_number(answer);
-    if 0 < e {
-        return e;
-    }
-    let m = shown.masks;
-    put_masks(m, out);
-    e
+    shown::masks(
+        words,
+        drivers,
+        Id { hi: hi, lo: lo },
+        shown::matrix_of(matrix),
+        out,
+    )
 }
 
 // Writes lines from a place on; the bytes written and the next place are left behind the last two references.
@@ -210,100 +199,22 @@ pub extern "C" fn zk_list(
     ensures { λ r. ⌜ ListShown (Listing (state (words .entry) (drivers .entry)) (idWith hi lo) (matrixOf matrix) place
         (now (buf .entry)) (now (buf .exit))) (written .entry) (written .exit) (next .entry) (next .exit) r ⌝ }
 {
-    let r = listing::list(
+    shown::list(
         words,
         drivers,
         Id { hi: hi, lo: lo },
-        matrix_of(matrix),
+        shown::matrix_of(matrix),
         place,
         buf,
-    );
-    let answer = r.answer;
-    let e = rules::answer_number(answer);
-    leave(e, r.written, written);
-    leave(e, r.next, next);
-    e
+        written,
+        next,
+    )
 }
 
 // The name of an errno value, padded with zeros, and its length; of any other number nothing, and 0.
 #[no_mangle]
-pub extern "C" fn zk_errno_name(value: u8, out: &mut [u8; 14]) -> usize
+pub extern "C" fn zk_errno_name(value: u8, out: &mut [u8; NAME_BYTES]) -> usize
     ensures { λ r. ⌜ NameShown value (out .entry) (out .exit) r ⌝ }
 {
-    let e = errno_of(value);
-    let n = errno::number(e);
-    if n != value {
-        return 0;
-    }
-    let name = errno::name(e);
-    let bytes = name.bytes;
-    *out = bytes;
-    name.len
-}
-
-fn flag(b: bool) -> u8
-    ensures { λ r. ⌜ r ≡ bit b ⌝ }
-{
-    if b { 1 } else { 0 }
-}
-
-fn matrix_of(n: u8) -> Matrix
-    ensures { λ r. ⌜ r ≡ matrixOf n ⌝ }
-{
-    if n == 0 {
-        Matrix::Assigned
-    } else {
-        Matrix::Guest
-    }
-}
-
-// Leaves a number, unless the call is refused.
-fn leave(errno: u8, number: usize, out: &mut usize)
-    ensures { λ r. ⌜ now (out .exit) ≡ cond (eqb errno 0) number (now (out .entry)) ⌝ }
-{
-    if errno == 0 {
-        *out = number;
-    }
-}
-
-// Three masks, one after the other.
-fn put_masks(masks: Masks, out: &mut [u8; 96])
-    ensures { λ r. ⌜ now (out .exit) ≡ masksBytes masks ⌝ }
-{
-    let adapters = masks.adapters;
-    let domains = masks.domains;
-    let controls = masks.controls;
-    put_mask(adapters, out, 0);
-    put_mask(domains, out, 32);
-    put_mask(controls, out, 64);
-}
-
-// The bytes of a mask, from an index on.
-fn put_mask(mask: Mask, out: &mut [u8], at: usize)
-    requires { ⌜ at + 32 ≤ length (now out) ⌝ }
-    ensures { λ r. ⌜ now (out .exit) ≡ paste (now (out .entry)) at (maskBytes (bits mask)) 32 ⌝ }
-{
-    let b = maskbytes::to_bytes(mask);
-    let mut i = 0usize;
-    while i < 32 {
-        out[at + i] = b[i];
-        i += 1;
-    }
-}
-
-// The case with an errno value; of any other number the first.
-fn errno_of(value: u8) -> Errno
-    ensures { λ r. ⌜ CaseOf value r ⌝ }
-{
-    match value {
-        2 => Errno::Enoent,
-        16 => Errno::Ebusy,
-        17 => Errno::Eexist,
-        19 => Errno::Enodev,
-        22 => Errno::Einval,
-        28 => Errno::Enospc,
-        98 => Errno::Eaddrinuse,
-        99 => Errno::Eaddrnotavail,
-        _ => Errno::Enoent,
-    }
+    shown::errno_name(value, out)
 }

@@ -10,6 +10,9 @@ ghost use Prim.Native.Nat.{_+_, _*_, _<_, _≤_};
 ghost use lib.ListN.{getD};
 ghost use Rattle.fields.specs.Fields.{halfAt, wordAt, idOf, kindOf, maskOf, bytesAt, configurationOf};
 
+// The bytes of a configuration: three masks of 32, then 256 hardware types.
+pub const CONFIGURATION_BYTES: usize = 352;
+
 // The number of the first four bytes, big-endian.
 pub fn number_of(bytes: &[u8]) -> u32
     ensures { λ r. ⌜ r ≡ halfAt (now (bytes .entry)) 0 ⌝ }

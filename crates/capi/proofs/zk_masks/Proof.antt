@@ -1,40 +1,11 @@
--- `zk_masks` meets its contract: the masks are put, or the buffer stays as it was.
+-- `zk_masks` meets its contract.
 -- Assumes nothing.
-use native.Mathlib.Omega.{arith}
-use mathlib.Core.Path.{refl}
 use borrow.Author.Needs.{needs}
 use Rattle.capi.proofs.zk_masks.Statement.{statement}
 use Rattle.capi.proofs.zk_masks.Tie as tie
 
 returns : tie.Need-returns
-returns c =
-    let n = c .before in
-    record {
-      shown = n .before .masks .result;
-      kept = rw (n .before .before .matrix-of .ensures) at (n .before .masks .ensures);
-      answer = n .answer-number .ensures;
-      accepted = λ e. absurd (omega arith);
-      refused = λ e. refl;
-    }
-
-returns-2 : tie.Need-returns-2
-returns-2 c =
-    let n = c .before .before .before .before in
-    record {
-      shown = n .before .masks .result;
-      kept = rw (n .before .before .matrix-of .ensures) at (n .before .masks .ensures);
-      answer = n .answer-number .ensures;
-      accepted = λ e. c .put-masks .ensures;
-      refused = λ e. absurd (e (omega arith));
-    }
+returns c = rw (c .before .before .matrix-of .ensures) at (c .masks .ensures)
 
 pub zk-masks-spec : {M : Type 1} → statement M
-zk-masks-spec =
-    tie.close
-    (tie.spec
-    (λ c κs. search needs)
-    (λ c κs. search needs)
-    (λ c κs. search needs)
-    returns
-    (λ c κs. search needs)
-    returns-2)
+zk-masks-spec = tie.close (tie.spec (λ c κs. search needs) (λ c κs. search needs) returns)

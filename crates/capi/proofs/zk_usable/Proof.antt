@@ -2,7 +2,7 @@
 -- Assumes nothing.
 use mathlib.Core.Path.{ap, _∙_}
 use borrow.Author.Needs.{needs}
-use Rattle.capi.specs.Numbered.{bit}
+use Rattle.shown.specs.Shown.{bit}
 use Rattle.capi.proofs.zk_usable.Statement.{statement}
 use Rattle.capi.proofs.zk_usable.Tie as tie
 

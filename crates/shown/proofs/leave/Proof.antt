@@ -1,8 +1,8 @@
 -- `leave` meets its contract.
 -- Assumes nothing.
 use borrow.Author.Tests.{eq-eqb, ne-eqb}
-use Rattle.capi.proofs.leave.Statement.{statement}
-use Rattle.capi.proofs.leave.Tie as tie
+use Rattle.shown.proofs.leave.Statement.{statement}
+use Rattle.shown.proofs.leave.Tie as tie
 
 returns : tie.Need-returns
 returns c = rw (eq-eqb (c .before .args .errno) 0 (c .if1 .taken))

@@ -1,9 +1,9 @@
 -- `matrix_of` meets its contract.
 -- Assumes nothing.
 use borrow.Author.Tests.{eq-eqb, ne-eqb}
-use Rattle.capi.specs.Numbered.{matrixOf}
-use Rattle.capi.proofs.matrix_of.Statement.{statement}
-use Rattle.capi.proofs.matrix_of.Tie as tie
+use Rattle.shown.specs.Shown.{matrixOf}
+use Rattle.shown.proofs.matrix_of.Statement.{statement}
+use Rattle.shown.proofs.matrix_of.Tie as tie
 
 returns : tie.Need-returns
 unfolding matrixOf

@@ -1,10 +1,10 @@
--- `zk_errno_name` meets its contract: the value is that of the case that was found, or no case has it.
+-- `errno_name` meets its contract: the value is that of the case that was found, or no case has it.
 -- Assumes nothing.
 use mathlib.Core.Path.{refl, sym, ap, _∙_}
 use borrow.Author.Needs.{needs}
 use Rattle.errno.specs.Errno.{numberOf}
-use Rattle.capi.proofs.zk_errno_name.Statement.{statement}
-use Rattle.capi.proofs.zk_errno_name.Tie as tie
+use Rattle.shown.proofs.errno_name.Statement.{statement}
+use Rattle.shown.proofs.errno_name.Tie as tie
 
 returns : tie.Need-returns
 returns c =
@@ -22,6 +22,6 @@ returns-2 c =
       unknown = λ none. absurd (none (n .before .errno-of .result) (sym (c .before .before .if1 .left) ∙ n .number .ensures));
     }
 
-pub zk-errno-name-spec : {M : Type 1} → statement M
-zk-errno-name-spec =
+pub errno-name-spec : {M : Type 1} → statement M
+errno-name-spec =
     tie.close (tie.spec (λ c κs. search needs) (λ c κs. search needs) returns (λ c κs. search needs) returns-2)

@@ -1,9 +1,9 @@
 -- `flag` meets its contract.
 -- Assumes nothing.
 use mathlib.Core.Path.{sym, ap}
-use Rattle.capi.specs.Numbered.{bit}
-use Rattle.capi.proofs.flag.Statement.{statement}
-use Rattle.capi.proofs.flag.Tie as tie
+use Rattle.shown.specs.Shown.{bit}
+use Rattle.shown.proofs.flag.Statement.{statement}
+use Rattle.shown.proofs.flag.Tie as tie
 
 returns : tie.Need-returns
 unfolding bit

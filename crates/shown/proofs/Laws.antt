@@ -14,7 +14,7 @@ use Rattle.errno.specs.declared.Errno.the-variants.{Enoent, Ebusy, Eexist, Enod
 use Rattle.errno.specs.Errno.{numberOf}
 use Rattle.mask.specs.Bits.{Bits}
 use Rattle.mask.proofs.Laws.{numbers-words}
-use Rattle.capi.specs.Shown.{maskBytes, Nameless}
+use Rattle.shown.specs.Shown.{maskBytes, Nameless}
 
 -- the case with a number
 caseWith : ℕ → Errno

@@ -1,0 +1,89 @@
+-- What a call leaves behind its references: a record over what they hold, then its name over lent memory at entry and at exit.
+-- Each but the last takes what the function below promises of its result.
+-- Assumes nothing.
+use Prim.Native.Nat.{ℕ}
+use mathlib.Core.Bool.{Bool, cond}
+use mathlib.Core.List.{List, _++_}
+use mathlib.Core.Path.{_≡_}
+use lib.Dec.{eqb}
+use lib.ListN.{length}
+use denote.Ref.{RefT, now}
+use Rattle.errno.specs.declared.Errno.{Errno}
+use Rattle.errno.specs.Errno.{numberOf, nameOf, padded}
+use Rattle.mask.specs.Bits.{Bits, bits, numbers}
+use Rattle.rules.specs.declared.Masks.{Masks}
+use Rattle.rules.specs.declared.Matrix.{Matrix}
+use Rattle.rules.specs.declared.Matrix.the-variants.{Assigned, Guest}
+use Rattle.rules.specs.Commands.{answered}
+use Rattle.layout.specs.Lent.{Lent}
+use Rattle.sweep.specs.declared.Swept.{Swept}
+use Rattle.guest.specs.declared.Shown.{Shown}
+use Rattle.listing.specs.declared.Listed.{Listed}
+
+-- a flag
+unfoldable pub bit : Bool → ℕ
+bit b = cond b 1 0
+
+-- a matrix: 0 is what is assigned, any other what the guest gets
+unfoldable pub matrixOf : ℕ → Matrix
+matrixOf n = cond (eqb n 0) Assigned Guest
+
+-- a lent number
+abbrev pub LentNumber : Type 0
+LentNumber = RefT ℕ
+
+-- a sweep: r is the moves used, and 1 or 0 is left for whether any remain
+pub record SweepLeft (promise : Swept → Type 0) (more r : ℕ) : Type 0 where
+  pub swept : Swept
+  pub kept : promise swept
+  pub used : r ≡ swept .used
+  pub remain : more ≡ bit (swept .more)
+
+abbrev pub SweepShown : (Swept → Type 0) → LentNumber → ℕ → Type 0
+SweepShown promise more r = SweepLeft promise (now more) r
+
+-- a mask as 32 bytes in mask order
+unfoldable pub maskBytes : Bits → List ℕ
+maskBytes m = numbers 8 32 m 0
+
+-- three masks, 96 bytes
+abbrev pub masksBytes : Masks → List ℕ
+masksBytes m = maskBytes (bits (m .adapters)) ++ (maskBytes (bits (m .domains)) ++ maskBytes (bits (m .controls)))
+
+-- masks: r is the answer's errno value, and the buffer holds the masks, or what it held
+pub record MasksLeft (promise : Shown → Type 0) (before after : List ℕ) (r : ℕ) : Type 0 where
+  pub shown : Shown
+  pub kept : promise shown
+  pub answer : r ≡ answered (shown .answer)
+  pub accepted : r ≡ 0 → after ≡ masksBytes (shown .masks)
+  pub refused : (r ≡ 0 → ⊥) → after ≡ before
+
+abbrev pub MasksShown : (Shown → Type 0) → Lent → Lent → ℕ → Type 0
+MasksShown promise entry exit r = MasksLeft promise (now entry) (now exit) r
+
+-- a listing: r is the answer's errno value, and the two numbers are those of the listing, or what they were
+pub record ListLeft (promise : Listed → Type 0) (written written′ next next′ r : ℕ) : Type 0 where
+  pub listed : Listed
+  pub kept : promise listed
+  pub answer : r ≡ answered (listed .answer)
+  pub accepted : r ≡ 0 → (written′ ≡ listed .written) × (next′ ≡ listed .next)
+  pub refused : (r ≡ 0 → ⊥) → (written′ ≡ written) × (next′ ≡ next)
+
+abbrev pub ListShown : (Listed → Type 0) → LentNumber → LentNumber → LentNumber → LentNumber → ℕ → Type 0
+ListShown promise written written′ next next′ r = ListLeft promise (now written) (now written′) (now next) (now next′) r
+
+-- no case has the value
+abbrev pub Nameless : ℕ → Type 0
+Nameless value = (e : Errno) → value ≡ numberOf e → ⊥
+
+-- the case that has the value, where one has it
+abbrev pub CaseOf : ℕ → Errno → Type 0
+CaseOf value r = (e : Errno) → value ≡ numberOf e → r ≡ e
+
+-- the name of an errno value: r is its length; for any other number r is 0, and the buffer holds what it held
+pub record NameLeft (value : ℕ) (before after : List ℕ) (r : ℕ) : Type 0 where
+  pub known : (e : Errno) → value ≡ numberOf e → (r ≡ length (nameOf e)) × (after ≡ padded (nameOf e))
+  pub unknown : Nameless value → (r ≡ 0) × (after ≡ before)
+
+abbrev pub NameShown : ℕ → Lent → Lent → ℕ → Type 0
+NameShown value entry exit r = NameLeft value (now entry) (now exit) r

@@ -1,0 +1,162 @@
+// What a caller in C is shown: answers with what they leave behind references. A refused call leaves what was there.
+//
+// Rests on errno, mask, maskbytes, rules, layout, sweep, guest and listing.
+use errno::Errno;
+use layout::Drivers;
+use layout::Words;
+use mask::Mask;
+use rules::Id;
+use rules::Masks;
+use rules::Matrix;
+ghost use mathlib.Core.Path.{_≡_};
+ghost use mathlib.Core.Bool.{cond};
+ghost use Prim.Native.Nat.{_+_, _≤_};
+ghost use lib.ListN.{length};
+ghost use lib.Seq.{paste};
+ghost use lib.Dec.{eqb};
+ghost use Rattle.mask.specs.Bits.{bits};
+ghost use Rattle.layout.specs.Lent.{state};
+ghost use Rattle.sweep.specs.Sweeps.{Sweeps};
+ghost use Rattle.guest.specs.Masks.{Shows};
+ghost use Rattle.listing.specs.Listed.{Listing};
+ghost use Rattle.shown.specs.Shown.{bit, matrixOf, SweepShown, maskBytes, masksBytes, MasksShown, ListShown, CaseOf, NameShown};
+
+// The bytes of three masks, and of a name that is padded with zeros.
+pub const MASKS_BYTES: usize = 96;
+
+pub const NAME_BYTES: usize = 14;
+
+// Makes a sweep and answers the moves used; more is then 1 where any remain, and 0 where none does.
+pub fn sweep(words: &Words, drivers: &mut Drivers, budget: u32, more: &mut u8) -> u32
+    ensures { λ r. ⌜ SweepShown (Sweeps budget (words .entry) (drivers .entry) (drivers .exit)) (more .exit) r ⌝ }
+{
+    let r = sweep::sweep(words, drivers, budget);
+    *more = flag(r.more);
+    r.used
+}
+
+// The adapters, domains and control domains of a matrix.
+pub fn masks(
+    words: &Words,
+    drivers: &Drivers,
+    id: Id,
+    matrix: Matrix,
+    out: &mut [u8; MASKS_BYTES],
+) -> u8
+    ensures { λ r. ⌜ MasksShown (Shows (state (words .entry) (drivers .entry)) id matrix) (out .entry) (out .exit) r ⌝ }
+{
+    let shown = guest::masks(words, drivers, id, matrix);
+    let answer = shown.answer;
+    let e = rules::answer_number(answer);
+    if 0 < e {
+        return e;
+    }
+    let m = shown.masks;
+    put_masks(m, out);
+    e
+}
+
+// Writes lines from a place on; the bytes written and the next place are left behind the last two references.
+pub fn list(
+    words: &Words,
+    drivers: &Drivers,
+    id: Id,
+    matrix: Matrix,
+    place: usize,
+    buf: &mut [u8],
+    written: &mut usize,
+    next: &mut usize,
+) -> u8
+    ensures { λ r. ⌜ ListShown (Listing (state (words .entry) (drivers .entry)) id matrix place (now (buf .entry)) (now (buf .exit)))
+        (written .entry) (written .exit) (next .entry) (next .exit) r ⌝ }
+{
+    let r = listing::list(words, drivers, id, matrix, place, buf);
+    let answer = r.answer;
+    let e = rules::answer_number(answer);
+    leave(e, r.written, written);
+    leave(e, r.next, next);
+    e
+}
+
+// The name of an errno value, padded with zeros, and its length; of any other number nothing, and 0.
+pub fn errno_name(value: u8, out: &mut [u8; NAME_BYTES]) -> usize
+    ensures { λ r. ⌜ NameShown value (out .entry) (out .exit) r ⌝ }
+{
+    let e = errno_of(value);
+    let n = errno::number(e);
+    if n != value {
+        return 0;
+    }
+    let name = errno::name(e);
+    let bytes = name.bytes;
+    *out = bytes;
+    name.len
+}
+
+pub fn flag(b: bool) -> u8
+    ensures { λ r. ⌜ r ≡ bit b ⌝ }
+{
+    if b { 1 } else { 0 }
+}
+
+// A matrix by its number: 0 is what is assigned, any other what the guest gets.
+pub fn matrix_of(n: u8) -> Matrix
+    ensures { λ r. ⌜ r ≡ matrixOf n ⌝ }
+{
+    if n == 0 {
+        Matrix::Assigned
+    } else {
+        Matrix::Guest
+    }
+}
+
+// Leaves a number, unless the call is refused.
+fn leave(errno: u8, number: usize, out: &mut usize)
+    ensures { λ r. ⌜ now (out .exit) ≡ cond (eqb errno 0) number (now (out .entry)) ⌝ }
+{
+    if errno == 0 {
+        *out = number;
+    }
+}
+
+// Three masks, one after the other.
+fn put_masks(masks: Masks, out: &mut [u8; MASKS_BYTES])
+    ensures { λ r. ⌜ now (out .exit) ≡ masksBytes masks ⌝ }
+{
+    let adapters = masks.adapters;
+    let domains = masks.domains;
+    let controls = masks.controls;
+    put_mask(adapters, out, 0);
+    put_mask(domains, out, 32);
+    put_mask(controls, out, 64);
+}
+
+// The bytes of a mask, from an index on.
+fn put_mask(mask: Mask, out: &mut [u8], at: usize)
+    requires { ⌜ at + 32 ≤ length (now out) ⌝ }
+    ensures { λ r. ⌜ now (out .exit) ≡ paste (now (out .entry)) at (maskBytes (bits mask)) 32 ⌝ }
+{
+    let b = maskbytes::to_bytes(mask);
+    let mut i = 0usize;
+    while i < 32 {
+        out[at + i] = b[i];
+        i += 1;
+    }
+}
+
+// The case with an errno value; of any other number the first.
+fn errno_of(value: u8) -> Errno
+    ensures { λ r. ⌜ CaseOf value r ⌝ }
+{
+    match value {
+        2 => Errno::Enoent,
+        16 => Errno::Ebusy,
+        17 => Errno::Eexist,
+        19 => Errno::Enodev,
+        22 => Errno::Einval,
+        28 => Errno::Enospc,
+        98 => Errno::Eaddrinuse,
+        99 => Errno::Eaddrnotavail,
+        _ => Errno::Enoent,
+    }
+}
