@@ -3,7 +3,8 @@
 --                10 a sweep; any other is a move
 --   byte 1       the kind of number: 0 adapter, 1 domain; any other is a control domain
 --   bytes 2-17   the id; a move's APID and APQI are bytes 2 and 3, a sweep's budget bytes 2 to 5, big-endian
---   bytes 18-19  the payload's length, big-endian: a text, or a configuration of 96 bytes of masks and 256 types (what is missing is 0)
+--   bytes 18-19  the payload's length, big-endian: a text, or a configuration of 96 bytes of masks and 256 types, where missing
+--                bytes are 0
 -- Every list of bytes is a list of steps: it ends where no whole step is left.
 -- The rules: RULES.md, "Reference model and demand 3".
 -- Assumes nothing.

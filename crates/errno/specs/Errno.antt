@@ -5,7 +5,8 @@ use mathlib.Core.List.{List, [], _∷_, _++_}
 use lib.ListN.{length, replicate}
 use Rattle.errno.specs.declared.Errno.{Errno}
 use Rattle.errno.specs.Ascii.{ascii}
-use Rattle.errno.specs.declared.Errno.the-variants.{Enoent, Ebusy, Eexist, Enodev, Einval, Enospc, Eaddrinuse, Eaddrnotavail}
+use Rattle.errno.specs.declared.Errno.the-variants.{Enoent, Ebusy, Eexist, Enodev}
+use Rattle.errno.specs.declared.Errno.the-variants.{Einval, Enospc, Eaddrinuse, Eaddrnotavail}
 
 -- the errno value of each case
 unfoldable pub numberOf : Errno → ℕ

@@ -106,7 +106,13 @@ deviceIn ws p =
 -- the whole record
 unfoldable pub stateIn : List ℕ → List ℕ → State
 stateIn ws qs =
-    record { limits = limitsIn ws; host = hostIn ws; config = configIn ws; device = deviceIn ws; driver = λ q. driverOf (getD qs q 0) }
+    record {
+      limits = limitsIn ws;
+      host = hostIn ws;
+      config = configIn ws;
+      device = deviceIn ws;
+      driver = λ q. driverOf (getD qs q 0);
+    }
 
 -- the four words of a mask
 unfoldable pub wordsOf : Bits → List ℕ
@@ -152,7 +158,9 @@ putTypes ws f (suc n) = set (putTypes ws f n) (typesAt + n) (f n)
 -- the words with the configuration replaced; the type of an adapter that is not configured is stored as 0
 unfoldable pub putConfig : List ℕ → Configuration → List ℕ
 putConfig ws c =
-    putTypes (putFour (putFour (putFour ws configAt (c .adapters .words)) (configAt + 4) (c .domains .words)) (configAt + 8) (c .controls .words))
+    putTypes
+    (putFour (putFour (putFour ws configAt (c .adapters .words)) (configAt + 4) (c .domains .words))
+    (configAt + 8) (c .controls .words))
     (λ a. cond (bits (c .adapters) a) (getD (c .types) a 0) 0) 256
 
 -- the configuration of a fresh record

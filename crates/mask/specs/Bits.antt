@@ -1,4 +1,5 @@
--- Masks as sets of bit numbers, and what is done with them, bit by bit. Bits are counted from the left: bit 0 is the top bit of the first byte.
+-- Masks as sets of bit numbers, and what is done with them, bit by bit.
+-- Bits are counted from the left: bit 0 is the top bit of the first byte.
 -- The rules: RULES.md, "Record".
 -- Assumes nothing.
 use Prim.Native.Nat.{ℕ, zero, suc, _+_, _-_, _*_, _/_, _%_, _^_, _<_}

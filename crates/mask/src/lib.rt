@@ -5,7 +5,8 @@ ghost use Prim.Native.Nat.{_-_, _^_};
 ghost use mathlib.Core.Bool.{cond};
 ghost use mathlib.Core.Path.{_≡_};
 ghost use lib.Dec.{ltb, eqb};
-ghost use Rattle.mask.specs.Bits.{bits, noBits, allBits, bitsAbove, included, excluded, both, either, someBelow, countBelow};
+ghost use Rattle.mask.specs.Bits.{bits, noBits, allBits, bitsAbove, included, excluded};
+ghost use Rattle.mask.specs.Bits.{both, either, someBelow, countBelow};
 
 // An adapter number. It is a kind of its own, so that no call can take a domain number for it.
 pub struct Apid(pub u8);

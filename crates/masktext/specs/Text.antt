@@ -26,7 +26,8 @@ hexMask ds = cond (leb 1 (length ds) && leb (length ds) 64 && allHex ds) (grante
 
 -- + sets the bit of an item's number, - clears it
 unfoldable pub signed : ℕ → Bits → Outcome ℕ → Outcome Bits
-signed sign m (granted n) = cond (eqb sign 43) (granted (included n m)) (cond (eqb sign 45) (granted (excluded n m)) (refused Einval))
+signed sign m (granted n) =
+    cond (eqb sign 43) (granted (included n m)) (cond (eqb sign 45) (granted (excluded n m)) (refused Einval))
 signed sign m (refused e) = refused e
 
 -- one item, worked on a mask: a sign and a number of at most 255

@@ -29,9 +29,12 @@ pub record Kept (s : State) (m : Model) : Type 0 where
 -- every driver and every device's guest masks are the model's
 pub record Follows (s : State) (m : Model) : Type 0 where
   pub drivers : (a d : ℕ) → a < 256 → d < 256 → s .driver (a * 256 + d) ≡ Model.driver m a d
-  pub guestAdapters : (p a : ℕ) → p < slots → a < 256 → Queues.guestAdapters s (s .device p) a ≡ Model.guestAdapters m (m .device p) a
-  pub guestDomains : (p d : ℕ) → p < slots → d < 256 → Queues.guestDomains s (s .device p) d ≡ Model.guestDomains m (m .device p) d
-  pub guestControls : (p d : ℕ) → p < slots → d < 256 → Queues.guestControls s (s .device p) d ≡ Model.guestControls m (m .device p) d
+  pub guestAdapters : (p a : ℕ) → p < slots → a < 256
+      → Queues.guestAdapters s (s .device p) a ≡ Model.guestAdapters m (m .device p) a
+  pub guestDomains : (p d : ℕ) → p < slots → d < 256
+      → Queues.guestDomains s (s .device p) d ≡ Model.guestDomains m (m .device p) d
+  pub guestControls : (p d : ℕ) → p < slots → d < 256
+      → Queues.guestControls s (s .device p) d ≡ Model.guestControls m (m .device p) d
 
 -- the statement on one list, of the state that the list's steps lead to
 pub record Demand3 (l : Limits) (steps : List Step) (s : State) : Type 0 where

@@ -124,7 +124,8 @@ put p v m =
 
 -- a device with nothing assigned, not open; without an id it is an empty slot
 unfoldable pub bare : Bool → Id → Device
-bare here i = record { present = here; isOpen = false; id = i; adapters = λ n. false; domains = λ n. false; controls = λ n. false }
+bare here i =
+    record { present = here; isOpen = false; id = i; adapters = λ n. false; domains = λ n. false; controls = λ n. false }
 
 -- no id
 unfoldable pub nobody : Id
@@ -132,7 +133,8 @@ nobody = record { hi = 0; lo = 0 }
 
 -- a device with its open mark
 unfoldable pub marked : Bool → Device → Device
-marked o v = record { present = v .present; isOpen = o; id = v .id; adapters = v .adapters; domains = v .domains; controls = v .controls }
+marked o v =
+    record { present = v .present; isOpen = o; id = v .id; adapters = v .adapters; domains = v .domains; controls = v .controls }
 
 -- a set with bit n set or cleared
 unfoldable pub turned : Bool → ℕ → Bits → Bits
@@ -141,11 +143,32 @@ turned on n b i = cond (eqb i n) on (b i)
 -- a device with bit n of a kind set or cleared
 unfoldable pub turn : Bool → Kind → ℕ → Device → Device
 turn on Adapter n v =
-    record { present = v .present; isOpen = v .isOpen; id = v .id; adapters = turned on n (v .adapters); domains = v .domains; controls = v .controls }
+    record {
+      present = v .present;
+      isOpen = v .isOpen;
+      id = v .id;
+      adapters = turned on n (v .adapters);
+      domains = v .domains;
+      controls = v .controls;
+    }
 turn on Domain n v =
-    record { present = v .present; isOpen = v .isOpen; id = v .id; adapters = v .adapters; domains = turned on n (v .domains); controls = v .controls }
+    record {
+      present = v .present;
+      isOpen = v .isOpen;
+      id = v .id;
+      adapters = v .adapters;
+      domains = turned on n (v .domains);
+      controls = v .controls;
+    }
 turn on Control n v =
-    record { present = v .present; isOpen = v .isOpen; id = v .id; adapters = v .adapters; domains = v .domains; controls = turned on n (v .controls) }
+    record {
+      present = v .present;
+      isOpen = v .isOpen;
+      id = v .id;
+      adapters = v .adapters;
+      domains = v .domains;
+      controls = turned on n (v .controls);
+    }
 
 -- other host masks
 unfoldable pub masked : Bits → Bits → Model → Model
@@ -225,14 +248,17 @@ reply (assign k i text) m =
     (put (slot i m) (turn true k n (its i m)) m))
 reply (unassign k i text) m =
     withText (numberText text) m
-    (λ n. judged (record { when = not (known i m); errno = Enoent } ∷ record { when = ltb (highest k m) n; errno = Enodev } ∷ []) m
+    (λ n. judged
+    (record { when = not (known i m); errno = Enoent } ∷ record { when = ltb (highest k m) n; errno = Enodev } ∷ []) m
     (put (slot i m) (turn false k n (its i m)) m))
 reply (setApmask text) m =
     withText (maskText text (m .apmask)) m
-    (λ b. judged (record { when = somePair (λ a d. (b a && m .aqmask d) && someHolds m a d); errno = Eaddrinuse } ∷ []) m (masked b (m .aqmask) m))
+    (λ b. judged (record { when = somePair (λ a d. (b a && m .aqmask d) && someHolds m a d); errno = Eaddrinuse } ∷ []) m
+    (masked b (m .aqmask) m))
 reply (setAqmask text) m =
     withText (maskText text (m .aqmask)) m
-    (λ b. judged (record { when = somePair (λ a d. (m .apmask a && b d) && someHolds m a d); errno = Eaddrinuse } ∷ []) m (masked (m .apmask) b m))
+    (λ b. judged (record { when = somePair (λ a d. (m .apmask a && b d) && someHolds m a d); errno = Eaddrinuse } ∷ []) m
+    (masked (m .apmask) b m))
 reply (configure c) m =
     judged
     (record { when = bitAbove (m .highestAdapter) (bits (c .adapters)); errno = Enodev }

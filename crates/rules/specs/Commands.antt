@@ -56,7 +56,13 @@ freeSlot vs = firstFrom slots 0 (λ p. not (vs p .present))
 -- the state with the device at slot p replaced
 unfoldable pub withDevice : ℕ → Device → State → State
 withDevice p v s =
-    record { limits = s .limits; host = s .host; config = s .config; device = λ j. cond (eqb j p) v (s .device j); driver = s .driver }
+    record {
+      limits = s .limits;
+      host = s .host;
+      config = s .config;
+      device = λ j. cond (eqb j p) v (s .device j);
+      driver = s .driver;
+    }
 
 -- the state with the host's masks replaced
 unfoldable pub withHost : HostMasks → State → State
@@ -104,11 +110,13 @@ remove i s = onDevice i s (λ p. cond (s .device p .isOpen) (refused Ebusy) (gra
 
 -- open: ENOENT, then EBUSY if open
 unfoldable pub openDevice : Id → State → Outcome State
-openDevice i s = onDevice i s (λ p. cond (s .device p .isOpen) (refused Ebusy) (granted (withDevice p (withOpen true (s .device p)) s)))
+openDevice i s =
+    onDevice i s (λ p. cond (s .device p .isOpen) (refused Ebusy) (granted (withDevice p (withOpen true (s .device p)) s)))
 
 -- close: ENOENT, then EINVAL if not open
 unfoldable pub closeDevice : Id → State → Outcome State
-closeDevice i s = onDevice i s (λ p. cond (s .device p .isOpen) (granted (withDevice p (withOpen false (s .device p)) s)) (refused Einval))
+closeDevice i s =
+    onDevice i s (λ p. cond (s .device p .isOpen) (granted (withDevice p (withOpen false (s .device p)) s)) (refused Einval))
 
 -- the assigned numbers of a kind
 unfoldable pub numbersOf : Kind → Device → Bits
@@ -118,9 +126,12 @@ numbersOf Control v = v .controls
 
 -- a device with the assigned numbers of a kind replaced
 unfoldable pub withNumbers : Kind → Bits → Device → Device
-withNumbers Adapter m v = record { present = v .present; isOpen = v .isOpen; id = v .id; adapters = m; domains = v .domains; controls = v .controls }
-withNumbers Domain m v = record { present = v .present; isOpen = v .isOpen; id = v .id; adapters = v .adapters; domains = m; controls = v .controls }
-withNumbers Control m v = record { present = v .present; isOpen = v .isOpen; id = v .id; adapters = v .adapters; domains = v .domains; controls = m }
+withNumbers Adapter m v =
+    record { present = v .present; isOpen = v .isOpen; id = v .id; adapters = m; domains = v .domains; controls = v .controls }
+withNumbers Domain m v =
+    record { present = v .present; isOpen = v .isOpen; id = v .id; adapters = v .adapters; domains = m; controls = v .controls }
+withNumbers Control m v =
+    record { present = v .present; isOpen = v .isOpen; id = v .id; adapters = v .adapters; domains = v .domains; controls = m }
 
 -- the limit of a kind: control domains use the domain limit
 unfoldable pub limitOf : Kind → Limits → ℕ
@@ -152,7 +163,8 @@ adding new p s t =
 unfoldable pub assignAt : Kind → ℕ → ℕ → State → Outcome State
 assignAt k n p s =
     cond (numbersOf k (s .device p) n) (granted s)
-    (adding (paired k n (s .device p)) p s (withDevice p (withNumbers k (included n (numbersOf k (s .device p))) (s .device p)) s))
+    (adding (paired k n (s .device p)) p s
+    (withDevice p (withNumbers k (included n (numbersOf k (s .device p))) (s .device p)) s))
 
 -- assign a number: ENOENT, ENODEV, EADDRNOTAVAIL, EADDRINUSE
 abbrev pub assignNumber : Kind → Id → ℕ → State → Outcome State
@@ -199,7 +211,8 @@ stored c =
 -- a bit of a configuration's masks is above its limit
 unfoldable pub beyondLimits : Limits → Configuration → Bool
 beyondLimits l c =
-    someBelow 256 (both (bits (c .adapters)) (bitsAbove (l .adapter))) || someBelow 256 (both (bits (c .domains)) (bitsAbove (l .domain)))
+    someBelow 256 (both (bits (c .adapters)) (bitsAbove (l .adapter)))
+    || someBelow 256 (both (bits (c .domains)) (bitsAbove (l .domain)))
     || someBelow 256 (both (bits (c .controls)) (bitsAbove (l .domain)))
 
 -- the state with the configuration replaced: a queue that is no longer configured becomes unbound

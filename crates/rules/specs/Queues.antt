@@ -135,7 +135,8 @@ guestDomains s v = both (v .domains) (s .config .domains)
 -- guest masks: the adapters; one domain whose queue is not passed through drops the adapter
 unfoldable pub guestAdapters : State → Device → Bits
 guestAdapters s v a =
-    v .adapters a && s .config .adapters a && not (someBelow 256 (λ d. guestDomains s v d && not (passed (s .driver (a * 256 + d)))))
+    v .adapters a && s .config .adapters a
+    && not (someBelow 256 (λ d. guestDomains s v d && not (passed (s .driver (a * 256 + d)))))
 
 -- guest masks: the control domains
 unfoldable pub guestControls : State → Device → Bits

@@ -74,7 +74,15 @@ inProduct adapters domains q = adapters (apid q) && domains (apqi q)
 
 -- an empty slot
 unfoldable pub noDevice : Device
-noDevice = record { present = false; isOpen = false; id = record { hi = 0; lo = 0 }; adapters = noBits; domains = noBits; controls = noBits }
+noDevice =
+    record {
+      present = false;
+      isOpen = false;
+      id = record { hi = 0; lo = 0 };
+      adapters = noBits;
+      domains = noBits;
+      controls = noBits;
+    }
 
 -- a fresh record
 unfoldable pub fresh : Limits → State

@@ -71,7 +71,8 @@ unfoldable pub wordsWith : List ℕ → Mask
 wordsWith ns = record { words = numbers 64 4 (maskWith ns) 0 }
 
 abbrev pub config : List ℕ → List ℕ → Step
-config us ds = command (configure (record { adapters = wordsWith us; domains = wordsWith ds; controls = wordsWith []; types = replicate 256 10 }))
+config us ds =
+    command (configure (record { adapters = wordsWith us; domains = wordsWith ds; controls = wordsWith []; types = replicate 256 10 }))
 
 -- a fresh record of the highest adapter n
 abbrev pub limited : ℕ → State
@@ -128,13 +129,15 @@ Every (r ∷ rs) = Says r × Every rs
 abbrev pub twoDevices : List Step
 twoDevices =
     unreserved
-    ++ (new 1 ∷ adapter 1 "1" ∷ adapter 1 "2" ∷ domain 1 "5" ∷ domain 1 "6" ∷ new 2 ∷ adapter 2 "1" ∷ adapter 2 "2" ∷ domain 2 "7" ∷ [])
+    ++ (new 1 ∷ adapter 1 "1" ∷ adapter 1 "2" ∷ domain 1 "5" ∷ domain 1 "6"
+    ∷ new 2 ∷ adapter 2 "1" ∷ adapter 2 "2" ∷ domain 2 "7" ∷ [])
 
 -- one device that has 5,6 x 4,171, all of it configured, and bound to passthrough but for (6,171)
 abbrev pub oneUnbound : List Step
 oneUnbound =
     unreserved
-    ++ (new 1 ∷ adapter 1 "5" ∷ adapter 1 "6" ∷ domain 1 "4" ∷ domain 1 "171" ∷ config (5 ∷ 6 ∷ []) (4 ∷ 171 ∷ []) ∷ move 5 4 ∷ move 5 171 ∷ move 6 4 ∷ [])
+    ++ (new 1 ∷ adapter 1 "5" ∷ adapter 1 "6" ∷ domain 1 "4" ∷ domain 1 "171" ∷ config (5 ∷ 6 ∷ []) (4 ∷ 171 ∷ [])
+    ∷ move 5 4 ∷ move 5 171 ∷ move 6 4 ∷ [])
 
 -- the table
 unfoldable pub table : List Row
@@ -169,8 +172,10 @@ table =
     -- 12: reserved at one queue and assigned elsewhere at another
     ∷ answering 255
     (unreserved
-    ++ (new 1 ∷ adapter 1 "5" ∷ domain 1 "4" ∷ new 2 ∷ domain 2 "4" ∷ domain 2 "6" ∷ aqmask "+6" ∷ apmask "+5" ∷ adapter 2 "5" ∷ []))
+    ++ (new 1 ∷ adapter 1 "5" ∷ domain 1 "4" ∷ new 2 ∷ domain 2 "4" ∷ domain 2 "6"
+    ∷ aqmask "+6" ∷ apmask "+5" ∷ adapter 2 "5" ∷ []))
     (0 ∷ 0 ∷ 0 ∷ 0 ∷ 0 ∷ 0 ∷ 0 ∷ 0 ∷ 0 ∷ 0 ∷ 99 ∷ [])
     -- 13: queue (5,4) goes from the host to passthrough, and nothing else is due
-    ∷ settling (config (5 ∷ []) (4 ∷ []) ∷ move 5 4 ∷ apmask "0x0" ∷ []) (5 * 256 + 4) (2 ∷ 1 ∷ 0 ∷ []) (Released ∷ BoundPassthrough ∷ Idle ∷ []) 0
+    ∷ settling (config (5 ∷ []) (4 ∷ []) ∷ move 5 4 ∷ apmask "0x0" ∷ []) (5 * 256 + 4)
+    (2 ∷ 1 ∷ 0 ∷ []) (Released ∷ BoundPassthrough ∷ Idle ∷ []) 0
     ∷ []

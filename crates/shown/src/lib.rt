@@ -19,7 +19,8 @@ ghost use Rattle.layout.specs.Lent.{state};
 ghost use Rattle.sweep.specs.Sweeps.{Sweeps};
 ghost use Rattle.guest.specs.Masks.{Shows};
 ghost use Rattle.listing.specs.Listed.{Listing};
-ghost use Rattle.shown.specs.Shown.{bit, matrixOf, SweepShown, maskBytes, masksBytes, MasksShown, ListShown, CaseOf, NameShown};
+ghost use Rattle.shown.specs.Shown.{bit, matrixOf, maskBytes, masksBytes, CaseOf};
+ghost use Rattle.shown.specs.Shown.{SweepShown, MasksShown, ListShown, NameShown};
 
 // The bytes of three masks, and of a name that is padded with zeros.
 pub const MASKS_BYTES: usize = 96;
@@ -67,8 +68,8 @@ pub fn list(
     written: &mut usize,
     next: &mut usize,
 ) -> u8
-    ensures { λ r. ⌜ ListShown (Listing (state (words .entry) (drivers .entry)) id matrix place (now (buf .entry)) (now (buf .exit)))
-        (written .entry) (written .exit) (next .entry) (next .exit) r ⌝ }
+    ensures { λ r. ⌜ ListShown (Listing (state (words .entry) (drivers .entry)) id matrix place
+        (now (buf .entry)) (now (buf .exit))) (written .entry) (written .exit) (next .entry) (next .exit) r ⌝ }
 {
     let r = listing::list(words, drivers, id, matrix, place, buf);
     let answer = r.answer;
