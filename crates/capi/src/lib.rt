@@ -18,7 +18,8 @@ ghost use Rattle.layout.specs.Carried.{Obeys};
 ghost use Rattle.setup.specs.Fresh.{Freshens};
 ghost use Rattle.devices.specs.Effects.{created, removed, opened, closed};
 ghost use Rattle.assign.specs.Numbers.{Assigns, Unassigns};
-ghost use Rattle.host.specs.Masks.{withApmask, withAqmask, Configures};
+ghost use Rattle.host.specs.Masks.{withApmask, withAqmask};
+ghost use Rattle.configure.specs.Configured.{Configures};
 ghost use Rattle.bind.specs.Moves.{Moves};
 ghost use Rattle.sweep.specs.Sweeps.{Sweeps, Remains};
 ghost use Rattle.guest.specs.Masks.{Shows, usableWith};
@@ -114,7 +115,11 @@ pub extern "C" fn zk_configure(
     ensures { λ r. ⌜ Numbered (Configures (configurationOf (now (configuration .entry)))
         (words .entry) (words .exit) (drivers .entry) (drivers .exit)) r ⌝ }
 {
-    rules::answer_number(host::configure(words, drivers, fields::configuration_of(configuration)))
+    rules::answer_number(configure::configure(
+        words,
+        drivers,
+        fields::configuration_of(configuration),
+    ))
 }
 
 // 0 idle, 1 released, 2 bound to host, 3 bound to passthrough.

@@ -164,7 +164,7 @@ fn host(words: &mut Words, drivers: &mut Drivers, letter: u8, s: &[u8]) -> Answe
         b'f' => setup::fresh(words, drivers, decimal(text), value(s, 2)),
         b'p' => host::set_apmask(words, text),
         b'q' => host::set_aqmask(words, text),
-        _ => host::configure(words, drivers, configuration(s)),
+        _ => configure::configure(words, drivers, configuration(s)),
     }
 }
 

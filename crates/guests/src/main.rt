@@ -54,7 +54,7 @@ fn prepare(words: &mut Words, drivers: &mut Drivers) {
     );
     answer(
         b"configure 5,6 x 4,71,171,255",
-        host::configure(words, drivers, partition()),
+        configure::configure(words, drivers, partition()),
     );
     let r = sweep::sweep(words, drivers, 131072);
     print::text(b"sweep: ");

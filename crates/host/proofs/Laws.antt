@@ -1,133 +1,99 @@
--- Setting either host mask, by one law; setting the configuration; one more queue of those that are unbound.
+-- Setting either host mask, by one law.
 -- Assumes nothing.
-use Prim.Native.Nat.{ℕ, _+_, _*_, _/_, _%_, _<_}
-use native.Mathlib.Omega.{arith}
-use native.Mathlib.Numerals.{add-one}
-use mathlib.Core.Bool.{Bool, true, false, cond, not, _&&_, _||_}
+use Prim.Native.Nat.{ℕ}
+use mathlib.Core.Bool.{Bool, true, false, cond}
 use mathlib.Core.List.{List}
-use mathlib.Core.Path.{_≡_, refl, sym, ap, ap₂, _∙_}
+use mathlib.Core.Path.{_≡_, refl, sym, ap, ap₂, subst, _∙_}
 use denote.Laws.{Is}
 use mir.Val.{Val}
-use lib.ListN.{set}
+use lib.ListN.{length}
 use Rattle.errno.specs.Outcome.{Outcome, granted, refused}
-use Rattle.errno.specs.Errno.{numberOf}
-use Rattle.errno.specs.declared.Errno.the-variants.{Enodev, Einval, Eaddrinuse}
+use Rattle.errno.specs.declared.Errno.the-variants.{Einval, Eaddrinuse}
 use Rattle.mask.specs.declared.Mask.{Mask}
-use Rattle.mask.specs.Bits.{Sized, Bits, bits, someBelow, both, bitsAbove}
+use Rattle.mask.specs.Bits.{Sized, Bits, bits, bitAt, someBelow, both}
 use Rattle.mask.proofs.Laws.{mask-words}
 use Rattle.masktext.proofs.MaskRead.{the-row}
 use Rattle.masktext.specs.declared.MaskRead.{MaskRead}
 use Rattle.masktext.specs.Text.{outcome, maskText}
-use Rattle.rules.proofs.Configuration.{the-row as config-row}
-use Rattle.rules.specs.declared.Configuration.{Configuration}
+use Rattle.rules.specs.declared.Answer.{Answer}
 use Rattle.rules.specs.declared.Answer.the-variants.{Done, Refused}
-use Rattle.rules.specs.State.{HostMasks, slots, queues, inProduct}
-use Rattle.rules.specs.Queues.{reserved, configured}
-use Rattle.rules.specs.Commands.{reading, setHost, withHost, assignedElsewhere, answered, errnoOf, stateAfter, beyondLimits, stored, withConfig, configure}
+use Rattle.rules.specs.State.{State, HostMasks, Devices, slots, queues, inProduct}
+use Rattle.rules.specs.Queues.{reserved}
+use Rattle.rules.specs.Commands.{reading, setHost, setApmask, setAqmask, withHost, assigned, assignedElsewhere}
 use Rattle.rules.proofs.Products.{elsewhere-anywhere}
-use Rattle.layout.specs.Carried.{memory, Carried}
-use Rattle.layout.specs.Layout.{apmaskAt, aqmaskAt, maskAt, deviceIn, limitsIn, configIn, stateIn, putFour, putConfig, wordsOf, unbind, takenAway}
-use Rattle.layout.proofs.Laws.{words-of, carried-refused, carried-granted}
-use Rattle.host.specs.Masks.{maskOr, withMask, gone, configured as configuredBy}
+use Rattle.layout.specs.Carried.{CarriedWords}
+use Rattle.layout.specs.Layout.{wordCount, apmaskAt, aqmaskAt, maskAt, deviceIn, hostIn, stateIn, putFour, wordsOf}
+use Rattle.layout.proofs.Laws.{words-of, refused-carried, done-carried, read-apmask, read-aqmask}
+use Rattle.host.specs.Masks.{maskOr, withMask, admitted, left}
 
--- the mask of a text has four words, by what owning it tells
-pub read-words : (r : MaskRead) {vs : List Val} → Is the-row r vs → Sized 64 4 (r .mask .words)
-read-words r h = mask-words (r .mask) (h .1 .1 .1 .0)
+-- what the two tests find
+pub by-answers : (good : Bool) (m : Bits) (vs : Devices) (g t : Bool) → g ≡ good → t ≡ someBelow queues (both m (assignedElsewhere slots vs))
+    → cond g (cond t (Refused Eaddrinuse) Done) (Refused Einval) ≡ admitted good m vs
+unfolding admitted
+by-answers good m vs g t p q =
+    ap₂ (λ (x y : Bool). cond x (cond y (Refused Eaddrinuse) Done) (Refused Einval)) p
+    (q ∙ ap (λ (u : Bits). someBelow queues (both m u)) (elsewhere-anywhere vs))
 
--- a queue that was not configured, or still is, stays as it is, and one that goes is unbound
-pub stays : {A : Type 0} (w s : Bool) (a b : A) → (w && not s) ≡ false → b ≡ cond (w && not s) a b
-stays w s a b e = sym (ap (λ (t : Bool). cond t a b) e)
+-- the mask lies at word `at`, and `host` is both masks with it replaced
+module _ (text ws : List ℕ) (at : ℕ) (host : Bits → HostMasks) (rule : State → Outcome State)
+    (ruled : (qs : List ℕ) → rule (stateIn ws qs) ≡ reading (maskText text (maskAt ws at)) (λ m. setHost (host m) (stateIn ws qs)))
+    (put : (m : List ℕ) → length m ≡ 4 → (qs : List ℕ) → stateIn (putFour ws at m) qs ≡ withHost (host (bitAt 64 m)) (stateIn ws qs))
+    (new : MaskRead) (read : outcome new ≡ maskText text (maskAt ws at)) (four : Sized 64 4 (new .mask .words)) where
+  -- whether a queue that would be reserved is assigned
+  abbrev inUse : Bool
+  inUse = someBelow queues (both (reserved (host (bits (new .mask)))) (assigned (deviceIn ws)))
 
-pub goes : {A : Type 0} (w s : Bool) (a b : A) → w ≡ true → s ≡ false → a ≡ cond (w && not s) a b
-goes w s a b e f = sym (ap₂ (λ (x y : Bool). cond (x && not y) a b) e f)
+  -- what the text and the test come to
+  comes : (g t : Bool) → new .good ≡ g → inUse ≡ t → (qs : List ℕ)
+      → rule (stateIn ws qs) ≡ cond g (cond t (refused Eaddrinuse) (granted (withHost (host (bits (new .mask))) (stateIn ws qs)))) (refused Einval)
+  unfolding reading setHost stateIn outcome
+  comes g t p q qs =
+      ruled qs ∙ ap (λ (o : Outcome Bits). reading o (λ m. setHost (host m) (stateIn ws qs))) (sym read)
+      ∙ ap (λ (b : Bool). reading (cond b (granted (bits (new .mask))) (refused Einval)) (λ m. setHost (host m) (stateIn ws qs))) p ∙ go g
+    where
+      go : (b : Bool) → reading (cond b (granted (bits (new .mask))) (refused Einval)) (λ m. setHost (host m) (stateIn ws qs))
+          ≡ cond b (cond t (refused Eaddrinuse) (granted (withHost (host (bits (new .mask))) (stateIn ws qs)))) (refused Einval)
+      go true = ap (λ (b : Bool). cond b (refused Eaddrinuse) (granted (withHost (host (bits (new .mask))) (stateIn ws qs)))) q
+      go false = refl
 
--- one queue more
-pub unbind-next : (qs : List ℕ) (away : ℕ → Bool) (n : ℕ) (b : Bool) → b ≡ away n
-    → cond b (set (unbind qs away n) n 0) (unbind qs away n) ≡ unbind qs away (n + 1)
-unfolding unbind
-unbind-next qs away n b e =
-    ap (λ (t : Bool). cond t (set (unbind qs away n) n 0) (unbind qs away n)) e ∙ ap (unbind qs away) (sym (add-one n))
+  -- the words of a mask that is put
+  put-words : new .good ≡ true → putFour ws at (new .mask .words) ≡ withMask at text ws
+  unfolding withMask maskOr outcome
+  put-words p =
+      ap (putFour ws at)
+      (sym (words-of four) ∙ ap wordsOf (ap (maskOr (maskAt ws at)) (ap (λ (b : Bool). cond b (granted (bits (new .mask))) (refused Einval)) (sym p) ∙ read)))
 
--- a text that is read as a host mask: the mask lies at word `at`, and `host` is both masks with it replaced
-module _ (text ws : List ℕ) (at : ℕ) (host : Bits → HostMasks) (old : Mask) (new : MaskRead) (was : bits old ≡ maskAt ws at)
-    (read : outcome new ≡ maskText text (bits old)) where
-  -- what the text comes to
-  comes : maskText text (maskAt ws at) ≡ cond (new .good) (granted (bits (new .mask))) (refused Einval)
-  unfolding outcome
-  comes = sym (read ∙ ap (maskText text) was)
+  by-tests : (g t : Bool) → new .good ≡ g → inUse ≡ t → CarriedWords rule (withMask at text) ws
+      (left at (new .mask) (cond g (cond t (Refused Eaddrinuse) Done) (Refused Einval)) ws) (cond g (cond t (Refused Eaddrinuse) Done) (Refused Einval))
+  by-tests false t p q = refused-carried rule (withMask at text) ws Einval (comes false t p q)
+  by-tests true true p q = refused-carried rule (withMask at text) ws Eaddrinuse (comes true true p q)
+  by-tests true false p q =
+      done-carried rule (withMask at text) ws (λ qs. withHost (host (bits (new .mask))) (stateIn ws qs)) (put-words p) (comes true false p q)
+      (λ qs. ap (λ (l : List ℕ). stateIn l qs) (sym (put-words p)) ∙ put (new .mask .words) (four .long) qs)
 
-  pub bad-text : new .good ≡ false → (qs : List ℕ) → reading (maskText text (maskAt ws at)) (λ m. setHost (host m) (stateIn ws qs)) ≡ refused Einval
-  unfolding reading
-  bad-text e qs =
-      ap (λ (o : Outcome Bits). reading o (λ m. setHost (host m) (stateIn ws qs)))
-      (comes ∙ ap (λ (b : Bool). cond b (granted (bits (new .mask))) (refused Einval)) e)
+  -- what was told, and what was left
+  set-mask : (r : Answer) (vs : List ℕ) → r ≡ admitted (new .good) (reserved (host (bits (new .mask)))) (deviceIn ws) → vs ≡ left at (new .mask) r ws
+      → CarriedWords rule (withMask at text) ws vs r
+  unfolding admitted
+  set-mask r vs a e =
+      subst (λ (l : List ℕ). CarriedWords rule (withMask at text) ws l r) (sym e)
+      (subst (λ (x : Answer). CarriedWords rule (withMask at text) ws (left at (new .mask) x ws) x) (sym a) (by-tests (new .good) inUse refl refl))
 
-  module _ (good : new .good ≡ true) where
-    read-as : maskText text (maskAt ws at) ≡ granted (bits (new .mask))
-    read-as = comes ∙ ap (λ (b : Bool). cond b (granted (bits (new .mask))) (refused Einval)) good
+-- the two masks; `other` is the one that stays
+module _ (text ws : List ℕ) (held : Sized 64 wordCount ws) (old other : Mask) (new : MaskRead) (read : outcome new ≡ maskText text (bits old)) {vals : List Val}
+    (owned : Is the-row new vals) (r : Answer) (vs : List ℕ) where
+  pub set-apmask : bits old ≡ hostIn ws .apmask → bits other ≡ hostIn ws .aqmask → r ≡ admitted (new .good) (inProduct (bits (new .mask)) (bits other)) (deviceIn ws)
+      → vs ≡ left apmaskAt (new .mask) r ws → CarriedWords (setApmask text) (withMask apmaskAt text) ws vs r
+  unfolding setApmask stateIn hostIn reserved
+  set-apmask was stays a e =
+      set-mask text ws apmaskAt (λ m. record { apmask = m; aqmask = maskAt ws aqmaskAt }) (setApmask text) (λ qs. refl)
+      (λ m l qs. read-apmask ws qs m (held .long) l) new (read ∙ ap (maskText text) was) (mask-words (new .mask) (owned .1 .1 .1 .0)) r vs
+      (a ∙ ap (λ (m : Bits). admitted (new .good) (inProduct (bits (new .mask)) m) (deviceIn ws)) stays) e
 
-    -- t says whether a queue that the new masks reserve is assigned
-    pub good-text : (us ds : Bits) (t : Bool) → t ≡ someBelow queues (both (inProduct us ds) (assignedElsewhere slots (deviceIn ws)))
-        → inProduct us ds ≡ reserved (host (bits (new .mask))) → (qs : List ℕ)
-        → reading (maskText text (maskAt ws at)) (λ m. setHost (host m) (stateIn ws qs))
-        ≡ cond t (refused Eaddrinuse) (granted (withHost (host (bits (new .mask))) (stateIn ws qs)))
-    unfolding reading setHost stateIn
-    good-text us ds t e same qs =
-        ap (λ (o : Outcome Bits). reading o (λ m. setHost (host m) (stateIn ws qs))) read-as
-        ∙ ap (λ (b : Bool). cond b (refused Eaddrinuse) (granted (withHost (host (bits (new .mask))) (stateIn ws qs))))
-        (sym (e ∙ ap₂ (λ (a b : Bits). someBelow queues (both a b)) same (elsewhere-anywhere (deviceIn ws))))
-
-    -- the words that are put
-    pub put-words : Sized 64 4 (new .mask .words) → putFour ws at (new .mask .words) ≡ withMask at text ws
-    unfolding withMask maskOr
-    put-words w = ap (putFour ws at) (sym (words-of w) ∙ ap wordsOf (ap (maskOr (maskAt ws at)) (sym read-as)))
-
--- the host's masks with one replaced
-abbrev pub with-apmask : List ℕ → Bits → HostMasks
-with-apmask ws m = record { apmask = m; aqmask = maskAt ws aqmaskAt }
-
-abbrev pub with-aqmask : List ℕ → Bits → HostMasks
-with-aqmask ws m = record { apmask = maskAt ws apmaskAt; aqmask = m }
-
--- ---- the configuration
-
--- its masks have four words each, by what owning it tells
-pub adapters-words : (g : Configuration) {vs : List Val} → Is config-row g vs → Sized 64 4 (g .adapters .words)
-adapters-words g h = mask-words (g .adapters) (h .1 .1 .0)
-
-pub domains-words : (g : Configuration) {vs : List Val} → Is config-row g vs → Sized 64 4 (g .domains .words)
-domains-words g h = mask-words (g .domains) (h .1 .1 .1 .0)
-
-pub controls-words : (g : Configuration) {vs : List Val} → Is config-row g vs → Sized 64 4 (g .controls .words)
-controls-words g h = mask-words (g .controls) (h .1 .1 .1 .1 .0)
-
--- a test of one limit
-pub above : (m : Mask) (l n : ℕ) (r t : Bool) → r ≡ t → r ≡ someBelow 256 (both (bits m) (bitsAbove l)) → l ≡ n → t ≡ someBelow 256 (both (bits m) (bitsAbove n))
-above m l n r t h e p = sym h ∙ e ∙ ap (λ (k : ℕ). someBelow 256 (both (bits m) (bitsAbove k))) p
-
-module _ (g : Configuration) (ws qs : List ℕ) where
-  -- the three tests of the limits
-  pub by-limits : (x y z : Bool) → x ≡ someBelow 256 (both (bits (g .adapters)) (bitsAbove (limitsIn ws .adapter)))
-      → y ≡ someBelow 256 (both (bits (g .domains)) (bitsAbove (limitsIn ws .domain)))
-      → z ≡ someBelow 256 (both (bits (g .controls)) (bitsAbove (limitsIn ws .domain))) → beyondLimits (limitsIn ws) g ≡ (x || y || z)
-  unfolding beyondLimits
-  by-limits x y z p q r = λ i. sym p i || sym q i || sym r i
-
-  -- the queues that are configured no more, by the masks before
-  pub gone-away : (us ds : Bits) → us ≡ configIn ws .adapters → ds ≡ configIn ws .domains
-      → gone (inProduct us ds) (inProduct (bits (g .adapters)) (bits (g .domains))) ≡ takenAway ws g
-  unfolding takenAway configured stored
-  gone-away us ds p q = λ i k. inProduct (p i) (q i) k && not (inProduct (bits (g .adapters)) (bits (g .domains)) k)
-
-  by-test : (t : Bool) → beyondLimits (limitsIn ws) g ≡ t → configure g (stateIn ws qs) ≡ cond t (refused Enodev) (granted (withConfig (stored g) (stateIn ws qs)))
-  unfolding configure stateIn
-  by-test t e = ap (λ (b : Bool). cond b (refused Enodev) (granted (withConfig (stored g) (stateIn ws qs)))) e
-
-  pub config-refused : beyondLimits (limitsIn ws) g ≡ true → Carried (configure g) (configuredBy g) (memory ws qs) (memory ws qs) (Refused Enodev)
-  config-refused e = carried-refused (configure g) (configuredBy g) (memory ws qs) Enodev (by-test true e)
-
-  pub config-done : {vs rs : List ℕ} → beyondLimits (limitsIn ws) g ≡ false → vs ≡ putConfig ws g → rs ≡ unbind qs (takenAway ws g) queues
-      → stateIn (putConfig ws g) (unbind qs (takenAway ws g) queues) ≡ withConfig (stored g) (stateIn ws qs)
-      → Carried (configure g) (configuredBy g) (memory ws qs) (memory vs rs) Done
-  config-done {vs} {rs} e p q s =
-      carried-granted (configure g) (configuredBy g) (memory ws qs) (memory vs rs) (withConfig (stored g) (stateIn ws qs)) (ap₂ memory p q) (by-test false e) s
+  pub set-aqmask : bits old ≡ hostIn ws .aqmask → bits other ≡ hostIn ws .apmask → r ≡ admitted (new .good) (inProduct (bits other) (bits (new .mask))) (deviceIn ws)
+      → vs ≡ left aqmaskAt (new .mask) r ws → CarriedWords (setAqmask text) (withMask aqmaskAt text) ws vs r
+  unfolding setAqmask stateIn hostIn reserved
+  set-aqmask was stays a e =
+      set-mask text ws aqmaskAt (λ m. record { apmask = maskAt ws apmaskAt; aqmask = m }) (setAqmask text) (λ qs. refl)
+      (λ m l qs. read-aqmask ws qs m (held .long) l) new (read ∙ ap (maskText text) was) (mask-words (new .mask) (owned .1 .1 .1 .0)) r vs
+      (a ∙ ap (λ (m : Bits). admitted (new .good) (inProduct m (bits (new .mask))) (deviceIn ws)) stays) e

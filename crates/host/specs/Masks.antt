@@ -1,19 +1,22 @@
--- What setting a host mask or the configuration leaves in memory.
+-- What setting a host mask checks, and what it leaves in memory.
 -- The rules: RULES.md, "Commands".
 -- Assumes nothing.
 use Prim.Native.Nat.{ℕ}
-use mathlib.Core.Bool.{not, _&&_}
+use mathlib.Core.Bool.{Bool, cond}
 use mathlib.Core.List.{List}
+use mathlib.Core.Path.{_≡_}
+use denote.Ref.{now}
 use Rattle.errno.specs.Outcome.{Outcome, granted, refused}
-use Rattle.mask.specs.Bits.{Bits}
+use Rattle.errno.specs.declared.Errno.the-variants.{Einval, Eaddrinuse}
+use Rattle.mask.specs.declared.Mask.{Mask}
+use Rattle.mask.specs.Bits.{Bits, someBelow, both}
 use Rattle.masktext.specs.Text.{maskText}
 use Rattle.rules.specs.declared.Answer.{Answer}
-use Rattle.rules.specs.declared.Configuration.{Configuration}
-use Rattle.rules.specs.State.{queues}
-use Rattle.rules.specs.Commands.{configure}
-use Rattle.layout.specs.Layout.{maskAt, putFour, wordsOf, apmaskAt, aqmaskAt, putConfig, unbind, takenAway}
-use Rattle.layout.specs.Lent.{Lent}
-use Rattle.layout.specs.Carried.{Memory, memory, ObeysBoth}
+use Rattle.rules.specs.declared.Answer.the-variants.{Done, Refused}
+use Rattle.rules.specs.State.{Devices, queues}
+use Rattle.rules.specs.Commands.{assigned}
+use Rattle.layout.specs.Layout.{maskAt, putFour, wordsOf, apmaskAt, aqmaskAt}
+use Rattle.layout.specs.Lent.{Lent, devices}
 
 -- the mask that a text was read as; bad text leaves the old one
 unfoldable pub maskOr : Bits → Outcome Bits → Bits
@@ -31,14 +34,17 @@ withApmask = withMask apmaskAt
 abbrev pub withAqmask : List ℕ → List ℕ → List ℕ
 withAqmask = withMask aqmaskAt
 
--- the queues that were in one set and are not in another
-abbrev pub gone : Bits → Bits → Bits
-gone was is q = was q && not (is q)
+-- the answer for a mask's text, good or not, and the queues that are reserved with it: EINVAL, then EADDRINUSE if one is assigned
+unfoldable pub admitted : Bool → Bits → Devices → Answer
+admitted good reserved vs =
+    cond good (cond (someBelow queues (both reserved (assigned vs))) (Refused Eaddrinuse) Done) (Refused Einval)
 
--- the memory with the configuration replaced, and the queues that it takes away unbound
-abbrev pub configured : Configuration → Memory → Memory
-configured c m = memory (putConfig (m .words) c) (unbind (m .drivers) (takenAway (m .words) c) queues)
+-- the words after an answer: mask m is put at word k, or nothing
+abbrev pub left : ℕ → Mask → Answer → List ℕ → List ℕ
+left k m Done ws = putFour ws k (m .words)
+left k m (Refused e) ws = ws
 
--- setting the configuration, of lent memory at entry and at exit
-abbrev pub Configures : Configuration → Lent → Lent → Lent → Lent → Answer → Type 0
-Configures c words words′ drivers drivers′ r = ObeysBoth (configure c) (configured c) words words′ drivers drivers′ r
+-- setting the mask at word k to m, by which some queues are reserved
+abbrev pub Sets : ℕ → Bool → Mask → Bits → Lent → Lent → Answer → Type 0
+Sets k good m reserved words words′ r =
+    (r ≡ admitted good reserved (devices words)) × (now words′ ≡ left k m r (now words))

@@ -1,9 +1,7 @@
 // Carries out a list of commands, moves and sweeps, with demand 3 as its contract.
 //
-// Rests on errno, mask, rules, record, setup, bind, devices, assign, host, model, fields, encoding and calls. It calls the
-// functions that a caller would.
-use layout::Drivers;
-use layout::Words;
+// Rests on errno, mask, rules, record, setup, bind, devices, assign, host, configure, model, fields, encoding and calls.
+// It calls the functions that a caller would.
 use mask::Apid;
 use mask::Apqi;
 ghost use Prim.Native.Nat.{_≤_};
@@ -70,7 +68,11 @@ fn step(words: &mut Words, drivers: &mut Drivers, bytes: &[u8]) -> u8
         5 => rules::answer_number(assign::unassign(words, kind, id, text)),
         6 => rules::answer_number(host::set_apmask(words, text)),
         7 => rules::answer_number(host::set_aqmask(words, text)),
-        8 => rules::answer_number(host::configure(words, drivers, fields::configuration_of(text))),
+        8 => rules::answer_number(configure::configure(
+            words,
+            drivers,
+            fields::configuration_of(text),
+        )),
         10 => make_sweep(words, drivers, fields::number_of(&bytes[2..])),
         _ => make_move(words, drivers, Apid(bytes[2]), Apqi(bytes[3])),
     }

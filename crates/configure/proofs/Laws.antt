@@ -1,0 +1,99 @@
+-- Setting the configuration, and one more queue, or one more adapter's queues, of those that are unbound.
+-- Assumes nothing.
+use Prim.Native.Nat.{ℕ, zero, suc, _+_, _*_, _≤_}
+use native.Mathlib.Omega.{arith}
+use native.Mathlib.Numerals.{add-one}
+use mathlib.Core.Bool.{Bool, true, false, cond, not, _&&_, _||_}
+use mathlib.Core.List.{List}
+use mathlib.Core.Path.{_≡_, refl, sym, ap, ap₂, _∙_}
+use denote.Laws.{Is}
+use mir.Val.{Val}
+use lib.ListN.{length, set}
+use Rattle.errno.specs.Outcome.{granted, refused}
+use Rattle.errno.specs.declared.Errno.the-variants.{Enodev}
+use Rattle.mask.specs.declared.Mask.{Mask}
+use Rattle.mask.specs.Bits.{Bits, bits, someBelow, both, bitsAbove}
+use Rattle.mask.proofs.Laws.{mask-words}
+use Rattle.rules.proofs.Configuration.{the-row}
+use Rattle.rules.proofs.Products.{in-product}
+use Rattle.rules.specs.declared.Configuration.{Configuration}
+use Rattle.rules.specs.declared.Answer.the-variants.{Done, Refused}
+use Rattle.rules.specs.State.{queues, inProduct}
+use Rattle.rules.specs.Queues.{configured}
+use Rattle.rules.specs.Commands.{beyondLimits, stored, withConfig, configure}
+use Rattle.layout.specs.Carried.{memory, Carried}
+use Rattle.layout.specs.Layout.{wordCount, limitsIn, configIn, stateIn, putConfig, unbind, takenAway}
+use Rattle.product.specs.declared.Product.{Product}
+use Rattle.product.specs.Meet.{queuesOf}
+use Rattle.layout.proofs.Laws.{carried-refused, carried-granted, read-config}
+use Rattle.configure.specs.Configured.{gone, unbindOne, unbindRow, configured as configuredBy}
+
+-- ---- the queues that are unbound
+
+-- queue q goes if it was configured, by one test, and is not, by another
+pub by-tests : (qs : List ℕ) (was is : Product) (q : ℕ) (w s : Bool) → w ≡ queuesOf was q → s ≡ queuesOf is q
+    → cond (w && not s) (set qs q 0) qs ≡ unbindOne qs (gone was is) q
+by-tests qs was is q w s p r = ap₂ (λ (x y : Bool). cond (x && not y) (set qs q 0) qs) p r
+
+module _ (qs : List ℕ) (away : Bits) (a : ℕ) where
+  -- one queue more of an adapter
+  pub row-next : (n : ℕ) → unbindOne (unbindRow qs away a n) away (a * 256 + n) ≡ unbindRow qs away a (n + 1)
+  unfolding unbindRow
+  row-next n = ap (unbindRow qs away a) (sym (add-one n))
+
+  -- the queues of an adapter, after those of the adapters before it
+  row-after : (n : ℕ) → unbindRow (unbind qs away (a * 256)) away a n ≡ unbind qs away (a * 256 + n)
+  unfolding unbindRow unbind
+  row-after zero = let none : a * 256 ≡ a * 256 + 0 = omega arith in ap (unbind qs away) none
+  row-after (suc n) =
+      let next : suc (a * 256 + n) ≡ a * 256 + suc n = omega arith in
+      ap (λ (l : List ℕ). unbindOne l away (a * 256 + n)) (row-after n) ∙ ap (unbind qs away) next
+
+  -- all of them
+  pub unbind-next : unbindRow (unbind qs away (a * 256)) away a 256 ≡ unbind qs away ((a + 1) * 256)
+  unbind-next = let next : a * 256 + 256 ≡ (a + 1) * 256 = omega arith in row-after 256 ∙ ap (unbind qs away) next
+
+-- an adapter that was not configured has nothing to unbind
+pub row-none : (qs : List ℕ) (was is : Product) (a : ℕ) → bits (was .adapters) a ≡ false → (n : ℕ) → n ≤ 256 → qs ≡ unbindRow qs (gone was is) a n
+unfolding unbindRow
+row-none qs was is a e zero h = refl
+row-none qs was is a e (suc n) h =
+    let q = a * 256 + n in
+    let none = in-product (bits (was .adapters)) (bits (was .domains)) a n (omega arith) ∙ ap (λ (b : Bool). b && bits (was .domains) n) e in
+    row-none qs was is a e n (omega arith) ∙ by-tests (unbindRow qs (gone was is) a n) was is q false (queuesOf is q) (sym none) refl
+
+-- ---- the configuration
+
+module _ (g : Configuration) (ws : List ℕ) where
+  -- the three tests of the limits a and d
+  pub by-limits : (a d : ℕ) → a ≡ limitsIn ws .adapter → d ≡ limitsIn ws .domain → (x y z : Bool) → x ≡ someBelow 256 (both (bits (g .adapters)) (bitsAbove a))
+      → y ≡ someBelow 256 (both (bits (g .domains)) (bitsAbove d)) → z ≡ someBelow 256 (both (bits (g .controls)) (bitsAbove d))
+      → (x || y || z) ≡ beyondLimits (limitsIn ws) g
+  unfolding beyondLimits
+  by-limits a d p q x y z u v w =
+      (λ i. u i || v i || w i)
+      ∙ ap₂ (λ (k l : ℕ). someBelow 256 (both (bits (g .adapters)) (bitsAbove k)) || someBelow 256 (both (bits (g .domains)) (bitsAbove l))
+      || someBelow 256 (both (bits (g .controls)) (bitsAbove l)))
+      p q
+
+  -- the queues that are configured no more, by the masks before
+  pub gone-away : (m n : Mask) → bits m ≡ configIn ws .adapters → bits n ≡ configIn ws .domains
+      → gone (record { adapters = m; domains = n }) (record { adapters = g .adapters; domains = g .domains }) ≡ takenAway ws g
+  unfolding takenAway configured stored
+  gone-away m n p q = λ i k. inProduct (p i) (q i) k && not (inProduct (bits (g .adapters)) (bits (g .domains)) k)
+
+  module _ (qs : List ℕ) where
+    by-test : (t : Bool) → t ≡ beyondLimits (limitsIn ws) g
+        → configure g (stateIn ws qs) ≡ cond t (refused Enodev) (granted (withConfig (stored g) (stateIn ws qs)))
+    unfolding configure stateIn
+    by-test t e = ap (λ (b : Bool). cond b (refused Enodev) (granted (withConfig (stored g) (stateIn ws qs)))) (sym e)
+
+    pub config-refused : true ≡ beyondLimits (limitsIn ws) g → Carried (configure g) (configuredBy g) (memory ws qs) (memory ws qs) (Refused Enodev)
+    config-refused e = carried-refused (configure g) (configuredBy g) (memory ws qs) Enodev (by-test true e)
+
+    -- the configuration's masks have four words each, by what owning it tells
+    pub config-done : {vs rs : List ℕ} {owned : List Val} → false ≡ beyondLimits (limitsIn ws) g → vs ≡ putConfig ws g → rs ≡ unbind qs (takenAway ws g) queues
+        → Is the-row g owned → length ws ≡ wordCount → length qs ≡ queues → Carried (configure g) (configuredBy g) (memory ws qs) (memory vs rs) Done
+    config-done {vs} {rs} e p q o l k =
+        carried-granted (configure g) (configuredBy g) (memory ws qs) (memory vs rs) (withConfig (stored g) (stateIn ws qs)) (ap₂ memory p q) (by-test false e)
+        (read-config ws g l (mask-words (g .adapters) (o .1 .1 .0)) (mask-words (g .domains) (o .1 .1 .1 .0)) (mask-words (g .controls) (o .1 .1 .1 .1 .0)) qs k)

@@ -1,0 +1,101 @@
+// The partition's configuration: setting it, and unbinding the queues that it takes away.
+//
+// Rests on errno, mask, product, rules and record.
+use errno::Errno;
+use layout::Drivers;
+use layout::Words;
+use mask::Apid;
+use mask::Apqi;
+use product::Product;
+use rules::Answer;
+use rules::Configuration;
+use rules::Driver;
+ghost use mathlib.Core.Path.{_≡_};
+ghost use Rattle.rules.specs.State.{apqn, queues};
+ghost use Rattle.rules.specs.Commands.{beyondLimits};
+ghost use Rattle.layout.specs.Layout.{unbind};
+ghost use Rattle.layout.specs.Lent.{limits};
+ghost use Rattle.configure.specs.Configured.{gone, unbindOne, unbindRow, Configures};
+
+// Replaces the configuration. A queue that is no longer configured is unbound at once.
+pub fn configure(words: &mut Words, drivers: &mut Drivers, configuration: Configuration) -> Answer
+    ensures { λ r. ⌜ Configures configuration (words .entry) (words .exit) (drivers .entry) (drivers .exit) r ⌝ }
+{
+    if beyond(words, configuration) {
+        return Answer::Refused(Errno::Enodev);
+    }
+    layout::hold_words(words);
+    layout::hold_drivers(drivers);
+    let was = Product {
+        adapters: record::configured_adapters(words),
+        domains: record::configured_domains(words),
+    };
+    let adapters = configuration.adapters;
+    let domains = configuration.domains;
+    unbind(
+        drivers,
+        was,
+        Product {
+            adapters: adapters,
+            domains: domains,
+        },
+    );
+    store::put_configuration(words, configuration);
+    Answer::Done
+}
+
+// Whether a bit of a configuration's masks is above its limit.
+fn beyond(words: &Words, configuration: Configuration) -> bool
+    ensures { λ r. ⌜ r ≡ beyondLimits (limits (words .entry)) configuration ⌝ }
+{
+    let adapters = configuration.adapters;
+    let domains = configuration.domains;
+    let controls = configuration.controls;
+    if adapters.exceeds_adapter(record::max_adapter(words)) {
+        return true;
+    }
+    let limit = record::max_domain(words);
+    if domains.exceeds_domain(limit) {
+        return true;
+    }
+    controls.exceeds_domain(limit)
+}
+
+// Unbinds the queues that were configured and are not any more.
+fn unbind(drivers: &mut Drivers, was: Product, is: Product)
+    ensures { λ r. ⌜ now (drivers .exit) ≡ unbind (now (drivers .entry)) (gone was is) queues ⌝ }
+{
+    let mut adapter = 0usize;
+    while adapter < 256 {
+        unbind_row(drivers, was, is, Apid(adapter as u8));
+        adapter += 1;
+    }
+}
+
+// Those of one adapter. An adapter that was not configured has none.
+fn unbind_row(drivers: &mut Drivers, was: Product, is: Product, adapter: Apid)
+    ensures { λ r. ⌜ now (drivers .exit) ≡ unbindRow (now (drivers .entry)) (gone was is) (adapter .0) 256 ⌝ }
+{
+    let adapters = was.adapters;
+    if !adapters.has_adapter(adapter) {
+        return;
+    }
+    let mut domain = 0usize;
+    while domain < 256 {
+        unbind_gone(drivers, was, is, adapter, Apqi(domain as u8));
+        domain += 1;
+    }
+}
+
+// Unbinds one queue, if it was configured and is not any more.
+fn unbind_gone(drivers: &mut Drivers, was: Product, is: Product, adapter: Apid, domain: Apqi)
+    ensures { λ r. ⌜ now (drivers .exit) ≡ unbindOne (now (drivers .entry)) (gone was is) (apqn adapter domain) ⌝ }
+{
+    if !was.has(adapter, domain) {
+        return;
+    }
+    if is.has(adapter, domain) {
+        return;
+    }
+    store::put_driver(drivers, adapter, domain, Driver::Unbound);
+}
