@@ -13,7 +13,8 @@ test:
 # shows only that the stored files are still what they make.
 expected:
 	@python3 tests/textcases.py | cmp - crates/textcases/stdout && echo "textcases: agrees"
-	@python3 tests/cases.py | cmp - crates/cases/stdout && echo "cases: agrees"
+	@python3 tests/cases.py stdin | cmp - crates/cases/stdin && echo "cases, input: agrees"
+	@python3 tests/cases.py stdout | cmp - crates/cases/stdout && echo "cases: agrees"
 	@python3 tests/lists.py stdin | cmp - crates/lists/stdin && echo "lists, input: agrees"
 	@python3 tests/lists.py stdout | cmp - crates/lists/stdout && echo "lists: agrees"
 
