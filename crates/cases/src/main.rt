@@ -77,7 +77,7 @@ fn assign(words: &mut Words, letter: u8, s: &[u8]) -> Answer {
 }
 
 fn kind(s: &[u8]) -> Kind {
-    match first(word(s, 2)) {
+    match letter(s) {
         b'a' => Kind::Adapter,
         b'd' => Kind::Domain,
         _ => Kind::Control,
@@ -169,7 +169,7 @@ fn shows(words: &Words, drivers: &Drivers, letter: u8, s: &[u8]) {
 }
 
 fn matrix(s: &[u8]) -> Matrix {
-    match first(word(s, 2)) {
+    match letter(s) {
         b'a' => Matrix::Assigned,
         _ => Matrix::Guest,
     }
@@ -246,8 +246,10 @@ fn value(s: &[u8], k: usize) -> u64 {
     decimal(word(s, k))
 }
 
-fn first(s: &[u8]) -> u8 {
-    if 0 < s.len() { s[0] } else { 0 }
+// The first letter of word 2, which tells the kind or the matrix.
+fn letter(s: &[u8]) -> u8 {
+    let w = word(s, 2);
+    if 0 < w.len() { w[0] } else { 0 }
 }
 
 // A number in decimal. One that is too large counts as the largest.
