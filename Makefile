@@ -9,8 +9,8 @@ run:
 test:
 	rt ci
 
-# The expected output of three programs was made by these Python programs, which share no code with the library. This
-# shows only that the stored files are still what they make.
+# The expected output of three programs, and the input of two, was made by these Python programs, which share no code with
+# the library. This shows only that the stored files are still what they make.
 expected:
 	@python3 tests/textcases.py | cmp - crates/textcases/stdout && echo "textcases: agrees"
 	@python3 tests/cases.py stdin | cmp - crates/cases/stdin && echo "cases, input: agrees"
