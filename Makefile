@@ -9,11 +9,12 @@ run:
 test:
 	rt ci
 
-# The expected output of three programs was made by these Python programs, which share no code with the library. This
-# shows only that the stored files are still what they make.
+# The expected output of three programs, and the input of two, was made by these Python programs, which share no code with
+# the library. This shows only that the stored files are still what they make.
 expected:
 	@python3 tests/textcases.py | cmp - crates/textcases/stdout && echo "textcases: agrees"
-	@python3 tests/cases.py | cmp - crates/cases/stdout && echo "cases: agrees"
+	@python3 tests/cases.py stdin | cmp - crates/cases/stdin && echo "cases, input: agrees"
+	@python3 tests/cases.py stdout | cmp - crates/cases/stdout && echo "cases: agrees"
 	@python3 tests/lists.py stdin | cmp - crates/lists/stdin && echo "lists, input: agrees"
 	@python3 tests/lists.py stdout | cmp - crates/lists/stdout && echo "lists: agrees"
 

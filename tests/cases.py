@@ -1,6 +1,8 @@
 #!/usr/bin/env python3
-"""What crates/cases must print, by the Python model of tests/service.py. A row of the table is what the program does and
-the label that it prints. `make expected` compares the output with crates/cases/stdout."""
+"""What crates/cases reads, and what it must print, by the Python model of tests/service.py. A row of the table is what the
+program does and the label that it prints. `make expected` compares the output with crates/cases/stdin and crates/cases/stdout."""
+import sys
+
 from service import NAMES, Service
 from textcases import EMPTY, mask
 
@@ -111,6 +113,13 @@ DO = {
     "lines": lambda n, which: len(s.matrix(s.find(n), which)[0]) * len(s.matrix(s.find(n), which)[1]),
     "list": listed,
 }
+# the letters by which the program knows what to do; a row without them is only printed
+LETTERS = {
+    "fresh": "hf", "configure": "hg", "apmask": "hp", "aqmask": "hq", "create": "dc", "remove": "dr", "open": "do",
+    "close": "dx", "assign": "aa", "unassign": "au", "target": "qt", "move": "qm", "remaining": "qn", "sweep": "qs",
+    "slot": "mi", "masks": "mk", "usable": "my", "lines": "mj", "list": "ml",
+}
+data = "".join(f"{LETTERS.get(row.split(' ')[0], '##')} {row};" for row in ROWS).replace("\\n", "\n")
 for row in ROWS:
     word, *arguments = row.split(" ")
     if word not in DO:
@@ -119,4 +128,7 @@ for row in ROWS:
     arguments = [a.replace("\\n", "\n") for a in arguments]
     lines.append(f"{row}: {DO[word](*arguments)}")
 if __name__ == "__main__":
-    print("\n".join(lines))
+    if sys.argv[1] == "stdin":
+        sys.stdout.write(data)
+    else:
+        print("\n".join(lines))

@@ -3,9 +3,9 @@
 -- Assumes nothing.
 use Prim.Native.Nat.{ℕ}
 use mathlib.Core.Bool.{cond}
-use mathlib.Core.List.{List, _++_}
+use mathlib.Core.List.{List}
 use mathlib.Core.Path.{_≡_}
-use lib.ListN.{length, drop}
+use lib.ListN.{length}
 use lib.Dec.{ltb}
 use Rattle.errno.specs.Errno.{numberOf}
 use Rattle.errno.specs.declared.Errno.the-variants.{Enoent, Enospc}
@@ -15,9 +15,10 @@ use Rattle.rules.specs.declared.Matrix.{Matrix}
 use Rattle.rules.specs.State.{State, inProduct, slots}
 use Rattle.rules.specs.Queues.{matrixAdapters, matrixDomains}
 use Rattle.rules.specs.Commands.{answered, slotOf}
-use Rattle.layout.specs.Lent.{deviceWith}
+use Rattle.record.specs.Lent.{deviceWith}
+use Rattle.lines.specs.Lines.{lineSize}
+use Rattle.lines.specs.Written.{Written}
 use Rattle.listing.specs.declared.Listed.{Listed}
-use Rattle.listing.specs.Lines.{lineSize, linesOf, fitting, nextPlace}
 
 -- the queues of a matrix of the device with an id
 unfoldable pub matrix : State → Id → Matrix → Bits
@@ -26,12 +27,6 @@ matrix s i w = inProduct (matrixAdapters w s (deviceWith i (s .device))) (matrix
 -- ENOENT, then ENOSPC for a buffer that is too short for a line; 0 is no refusal
 unfoldable pub listErrno : State → Id → ℕ → ℕ
 listErrno s i n = cond (ltb (slotOf i (s .device)) slots) (cond (ltb n lineSize) (numberOf Enospc) 0) (numberOf Enoent)
-
--- the lines of m from a place on are in the buffer `before`, which is left as `after`: past them it is as it was
-pub record Written (m : Bits) (place : ℕ) (before after : List ℕ) (r : Listed) : Type 0 where
-  pub text : after ≡ linesOf (fitting (length before) place m) ++ drop (length (linesOf (fitting (length before) place m))) before
-  pub written : r .written ≡ length (linesOf (fitting (length before) place m))
-  pub next : r .next ≡ nextPlace (length before) place m
 
 -- nothing is written
 pub record Untouched (place : ℕ) (before after : List ℕ) (r : Listed) : Type 0 where
@@ -42,5 +37,5 @@ pub record Untouched (place : ℕ) (before after : List ℕ) (r : Listed) : Type
 -- a call with a place and the buffer `before`, which it leaves as `after`
 pub record Listing (s : State) (i : Id) (w : Matrix) (place : ℕ) (before after : List ℕ) (r : Listed) : Type 0 where
   pub answer : answered (r .answer) ≡ listErrno s i (length before)
-  pub accepted : answered (r .answer) ≡ 0 → Written (matrix s i w) place before after r
+  pub accepted : answered (r .answer) ≡ 0 → Written (matrix s i w) place before after (r .written) (r .next)
   pub refused : (answered (r .answer) ≡ 0 → ⊥) → Untouched place before after r

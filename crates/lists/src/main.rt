@@ -7,31 +7,32 @@ use layout::Words;
 use mask::Apid;
 use mask::Apqi;
 use rules::Id;
-use rules::Masks;
 use rules::Matrix;
 
 fn main() {
     let mut words = [0u64; WORDS];
     let mut drivers = [0u8; QUEUES];
-    let mut steps = [0u8; 32768];
-    let mut answers = [255u8; 640];
-    let got = io::read_full(0, &mut steps);
-    if got < 32769 {
-        let n = run::run(
-            &mut words,
-            &mut drivers,
-            Apid(255),
-            Apqi(255),
-            &steps[..got],
-            &mut answers,
-        );
-        print::number(b"steps ", n as u64);
-        print_answers(answers, n);
-    }
+    list(&mut words, &mut drivers);
     left(&words, &drivers);
     let r = sweep::sweep(&words, &mut drivers, 131072);
     print::number(b"sweep ", r.used as u64);
     left(&words, &drivers);
+}
+
+fn list(words: &mut Words, drivers: &mut Drivers) {
+    let mut steps = [0u8; 32768];
+    let mut answers = [255u8; 640];
+    let got = io::read_full(0, &mut steps);
+    let n = run::run(
+        words,
+        drivers,
+        Apid(255),
+        Apqi(255),
+        &steps[..got],
+        &mut answers,
+    );
+    print::number(b"steps ", n as u64);
+    print_answers(answers, n);
 }
 
 // The first n answers.
@@ -72,18 +73,9 @@ fn device(words: &Words, drivers: &Drivers, n: u64) {
 fn matrix(words: &Words, drivers: &Drivers, id: Id, which: Matrix) {
     let shown = guest::masks(words, drivers, id, which);
     let m = shown.masks;
-    masks(m);
+    print::masks(m);
     let mut lines = [0u8; 256];
     let listed = listing::list(words, drivers, id, which, 0, &mut lines);
     print::first(&lines, listed.written);
     print::number(b" next ", listed.next as u64);
-}
-
-fn masks(m: Masks) {
-    let adapters = m.adapters;
-    let domains = m.domains;
-    let controls = m.controls;
-    print::mask_bits(b" adapters", adapters);
-    print::mask_bits(b" domains", domains);
-    print::mask_bits(b" controls", controls);
 }

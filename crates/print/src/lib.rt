@@ -5,6 +5,7 @@
 use errno::Errno;
 use mask::Mask;
 use rules::Answer;
+use rules::Masks;
 ghost use mathlib.Core.Path.{_≡_};
 ghost use Prim.Native.Nat.{min};
 ghost use lib.ListN.{length};
@@ -73,21 +74,21 @@ pub fn decimal(n: u64) -> usize
     k
 }
 
-// A line of a label and what a command answered: ok, or the name of the refusal. Answers the errno value.
-pub fn answer(label: &[u8], a: Answer) -> u8
+// What a command answered: the line for done, or a text and the name of the refusal. Answers the errno value.
+pub fn answer(done: &[u8], refused: &[u8], a: Answer) -> u8
     ensures { λ r. ⌜ r ≡ answered a ⌝ }
 {
     let r = rules::answer_number(a);
-    text(label);
     match a {
         Answer::Done => {
-            text(b"ok");
+            text(done);
         }
         Answer::Refused(e) => {
+            text(refused);
             name(e);
+            text(b"\n");
         }
     }
-    text(b"\n");
     r
 }
 
@@ -99,6 +100,19 @@ pub fn name(e: Errno) -> u8
     let bytes = name.bytes;
     first(&bytes, name.len);
     errno::number(e)
+}
+
+// The three masks of a matrix, a line for each. Answers how many lines that took.
+pub fn masks(m: Masks) -> usize
+    ensures { λ r. ⌜ r ≡ 3 ⌝ }
+{
+    let adapters = m.adapters;
+    let domains = m.domains;
+    let controls = m.controls;
+    mask_bits(b" adapters", adapters);
+    mask_bits(b" domains", domains);
+    mask_bits(b" controls", controls);
+    3
 }
 
 // A line of a label and the numbers of a mask's bits. Answers how many there are.

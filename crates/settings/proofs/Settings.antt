@@ -30,7 +30,7 @@ use Rattle.rules.proofs.Products.{product-apid, product-apqi}
 use Rattle.layout.specs.Layout.{wordsOf}
 use Rattle.layout.proofs.Laws.{words-bits}
 use Rattle.model.specs.Steps.{Step, move, queueOf, answers, afterAll}
-use Rattle.listing.specs.Lines.{setFrom}
+use Rattle.lines.specs.Lines.{setFrom}
 use Rattle.settings.specs.Table.{maskWith, setBits, shown, maskOrNone, readMask, idOf, wordsWith, limited, unreserved, twoDevices, oneUnbound, new, adapter, domain, apmask, aqmask, config, adaptersIn, domainsIn, Settles, Every, table}
 use Rattle.settings.proofs.Quick.{pairedAdapters, pairedDomains, meetsHost, meetsElsewhere, quickAssignAt, quickSetHost, quickRule, quickAnswers, quickAfter, answers-quick, after-quick}
 

@@ -18,7 +18,7 @@ use Rattle.rules.specs.declared.Moved.{Moved}
 use Rattle.rules.specs.declared.Moved.the-variants.{Idle, Released, BoundPassthrough}
 use Rattle.rules.specs.State.{State, fresh}
 use Rattle.rules.specs.Queues.{reserved, guestAdapters, guestDomains, remaining, moveAnswer, moves, movesUsed}
-use Rattle.listing.specs.Lines.{setFrom}
+use Rattle.lines.specs.Lines.{setFrom}
 use Rattle.model.specs.Steps.{Step, command, move, create, assign, setApmask, setAqmask, configure, afterAll, answers}
 
 -- the mask with just these bits set

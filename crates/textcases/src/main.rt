@@ -26,17 +26,15 @@ fn main() {
     );
 }
 
-fn each(t: &[u8]) {
-    let mut start = 0usize;
-    let mut i = 0usize;
-    while i < t.len() {
-        if t[i] == b';' {
-            if start < i {
-                read(t[start], &t[start + 1..i]);
-            }
-            start = i + 1;
-        }
-        i += 1;
+fn each(table: &[u8]) {
+    for k in 0..128usize {
+        row(parts::part(table, b';', k));
+    }
+}
+
+fn row(s: &[u8]) {
+    if 0 < s.len() {
+        read(s[0], &s[1..]);
     }
 }
 
@@ -82,16 +80,12 @@ fn mask(s: &[u8], old: Mask) {
 fn mask_outcome(r: MaskRead) {
     if r.good {
         let m = r.mask;
-        hex(m);
+        print::text(b"0x");
+        print::mask_hex(m);
+        print::text(b"\n");
     } else {
         bad();
     }
-}
-
-fn hex(m: Mask) {
-    print::text(b"0x");
-    print::mask_hex(m);
-    print::text(b"\n");
 }
 
 fn bad() {
@@ -102,16 +96,22 @@ fn bad() {
 fn number_starts(t: &[u8]) {
     let mut n = 0usize;
     while n < t.len() {
-        number_outcome(number::parse(&t[..n]));
-        number_outcome(number_of(changed(t, n, 10), n + 1));
+        number_start(changed(t, n, 10), n);
         n += 1;
+    }
+}
+
+fn number_start(s: [u8; 24], n: usize) {
+    if n < 24 {
+        number_outcome(number::parse(&s[0..n]));
+        number_outcome(number::parse(&s[0..n + 1]));
     }
 }
 
 fn mask_starts(t: &[u8], from: usize, old: Mask) {
     let mut n = from;
     while n < t.len() {
-        mask_outcome(masktext::parse(&t[..n], old));
+        mask_outcome(masktext::parse(&t[0..n], old));
         n += 1;
     }
 }
@@ -129,11 +129,14 @@ fn bytes(how: u8, t: &[u8]) {
 }
 
 fn changed_byte(how: u8, t: &[u8], place: usize, b: usize) {
-    let s = changed(t, place, b);
-    if how == b'N' {
-        number_line(number_of(s, t.len()), place, b);
-    } else {
-        mask_line(mask_of(s, t.len()), place, b);
+    let n = t.len();
+    if n < 25 {
+        let s = changed(t, place, b);
+        if how == b'N' {
+            number_line(number::parse(&s[0..n]), place, b);
+        } else {
+            mask_line(masktext::parse(&s[0..n], Mask::full()), place, b);
+        }
     }
 }
 
@@ -150,8 +153,7 @@ fn number_line(n: Number, place: usize, b: usize) {
 fn mask_line(r: MaskRead, place: usize, b: usize) {
     if r.good {
         at(place, b);
-        let m = r.mask;
-        hex(m);
+        mask_outcome(r);
     }
 }
 
@@ -160,24 +162,6 @@ fn at(place: usize, b: usize) {
     print::text(b" ");
     print::decimal(b as u64);
     print::text(b" ");
-}
-
-// The first n bytes, of at most 24, read as a number.
-fn number_of(s: [u8; 24], n: usize) -> Number {
-    if n < 25 {
-        return number::parse(&s[..n]);
-    }
-    Number::Bad
-}
-
-fn mask_of(s: [u8; 24], n: usize) -> MaskRead {
-    if n < 25 {
-        return masktext::parse(&s[..n], Mask::full());
-    }
-    MaskRead {
-        good: false,
-        mask: Mask::full(),
-    }
 }
 
 // A text of at most 24 bytes, with another byte at a place.

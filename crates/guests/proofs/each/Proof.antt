@@ -1,20 +1,15 @@
--- `each` is safe and ends: a row starts at or before the index, which stays within the table.
+-- `each` is safe and ends: a turn for each row.
 -- Assumes nothing.
 use Prim.Native.Nat.{_-_, _≤_}
-use mathlib.Core.Logic.{⊎-elim}
-use lib.ListN.{length}
 use borrow.Author.Needs.{needs}
 use Rattle.guests.proofs.each.Statement.{statement}
 use Rattle.guests.proofs.each.Tie as tie
 
 abbrev Inv-loop : tie.InvT-loop
-Inv-loop words₀ drivers rows start₀ i₀ words start i = (start ≤ i) × (i ≤ length rows)
+Inv-loop words₀ drivers₀ rows k₀ words drivers k = k ≤ 32
 
 abbrev μ-loop : tie.MeasureT-loop
-μ-loop words₀ drivers rows start₀ i₀ words start i = length rows - i
-
-loop-again : tie.Need-loop-again Inv-loop μ-loop
-loop-again c = ⊎-elim (λ w. search needs) (λ w. search needs) (c .if1 .came)
+μ-loop words₀ drivers₀ rows k₀ words drivers k = 32 - k
 
 pub each-spec : {M : Type 1} → statement M
 each-spec =
@@ -23,13 +18,9 @@ each-spec =
     Inv-loop
     μ-loop
     (λ c. search needs)
-    (λ c. search needs)
-    (λ c. search needs)
-    (λ c. search needs)
-    (λ c. search needs)
+    (λ c κs. search needs)
     (λ c κs. search needs)
     (λ c. search needs)
     (λ c. search needs)
     (λ c. search needs)
-    loop-again
     (λ c. search needs))

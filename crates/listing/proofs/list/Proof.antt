@@ -2,10 +2,12 @@
 -- Assumes nothing.
 use native.Mathlib.Omega.{arith}
 use denote.Ref.{now}
+use mathlib.Core.Path.{refl}
 use lib.ListN.{length}
 use borrow.Author.Needs.{needs}
 use Rattle.errno.specs.Errno.{numberOf}
 use Rattle.errno.specs.declared.Errno.the-variants.{Enoent, Enospc}
+use Rattle.rules.specs.Commands.{answered}
 use Rattle.listing.proofs.Laws.{refused-listing, written-listing, errno-absent, errno-short, errno-none, matrix-at}
 use Rattle.listing.proofs.list.Statement.{statement}
 use Rattle.listing.proofs.list.Tie as tie
@@ -31,15 +33,16 @@ returns-2 c =
     (c .refused2 .ensures .2)
 
 returns-3 : tie.Need-returns-3
+unfolding answered
 returns-3 c =
     let w = c .before .before .write in
     let m = c .before .before .before .before .before .before in
     let f = m .before .before .before in
     let a = f .before .before .args in
-    written-listing (w .result) (w .ensures .0)
+    written-listing _ refl
     (errno-none (now (a .words)) (now (a .drivers)) (a .id) (f .find .ensures) (length (now (a .buf))) (omega arith) (omega arith))
     (matrix-at (now (a .words)) (now (a .drivers)) (a .id) (f .find .ensures) (m .masks-at .ensures))
-    (w .ensures .1)
+    (w .ensures)
 
 pub list-spec : {M : Type 1} → statement M
 list-spec =

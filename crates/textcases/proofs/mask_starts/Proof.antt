@@ -1,10 +1,7 @@
 -- `mask_starts` is safe and ends.
 -- Assumes nothing.
 use Prim.Native.Nat.{_-_}
-use native.Mathlib.Omega.{arith}
-use mathlib.Core.Path.{sym}
 use lib.ListN.{length}
-use lib.Seq.{length-take-le}
 use borrow.Author.Needs.{needs}
 use Rattle.textcases.proofs.mask_starts.Statement.{statement}
 use Rattle.textcases.proofs.mask_starts.Tie as tie
@@ -15,9 +12,6 @@ Inv-loop t from old n₀ n = Unit {0}
 abbrev μ-loop : tie.MeasureT-loop
 μ-loop t from old n₀ n = length t - n
 
-slice-aggregate-parse : tie.Need-slice-aggregate-parse Inv-loop μ-loop
-slice-aggregate-parse c = sym (length-take-le _ _ (omega arith))
-
 pub mask-starts-spec : {M : Type 1} → statement M
 mask-starts-spec =
     tie.close
@@ -25,7 +19,9 @@ mask-starts-spec =
     Inv-loop
     μ-loop
     (λ c. search needs)
-    slice-aggregate-parse
+    (λ c. search needs)
+    (λ c. search needs)
+    (λ c. search needs)
     (λ c κs. search needs)
     (λ c κs. search needs)
     (λ c. search needs)

@@ -1,10 +1,7 @@
 -- `number_starts` is safe and ends.
 -- Assumes nothing.
 use Prim.Native.Nat.{_-_}
-use native.Mathlib.Omega.{arith}
-use mathlib.Core.Path.{sym}
 use lib.ListN.{length}
-use lib.Seq.{length-take-le}
 use borrow.Author.Needs.{needs}
 use Rattle.textcases.proofs.number_starts.Statement.{statement}
 use Rattle.textcases.proofs.number_starts.Tie as tie
@@ -15,20 +12,12 @@ Inv-loop t n₀ n = Unit {0}
 abbrev μ-loop : tie.MeasureT-loop
 μ-loop t n₀ n = length t - n
 
-slice-aggregate-parse : tie.Need-slice-aggregate-parse Inv-loop μ-loop
-slice-aggregate-parse c = sym (length-take-le _ _ (omega arith))
-
 pub number-starts-spec : {M : Type 1} → statement M
 number-starts-spec =
     tie.close
     (tie.spec
     Inv-loop
     μ-loop
-    (λ c. search needs)
-    slice-aggregate-parse
-    (λ c κs. search needs)
-    (λ c κs. search needs)
-    (λ c κs. search needs)
     (λ c. search needs)
     (λ c κs. search needs)
     (λ c κs. search needs)

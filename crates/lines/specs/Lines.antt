@@ -3,7 +3,7 @@
 use Prim.Native.Nat.{ℕ, zero, suc, _+_, _-_, _/_, _%_}
 use mathlib.Core.Bool.{cond}
 use mathlib.Core.List.{List, [], _∷_, _++_}
-use lib.ListN.{length, getD, take, drop}
+use lib.ListN.{length, take, drop}
 use lib.Dec.{ltb, leb}
 use Rattle.mask.specs.Bits.{Bits}
 use Rattle.rules.specs.State.{queues, apid, apqi}
@@ -43,7 +43,11 @@ linesOf (q ∷ qs) = lineOf q ++ linesOf qs
 unfoldable pub fitting : ℕ → ℕ → Bits → List ℕ
 fitting n place m = take (n / lineSize) (queuesAt place m)
 
--- where to go on: just after the last queue written where more are to come, else past all queues
+-- just after the last of some queues, or the place itself where there are none
+unfoldable pub pastLast : ℕ → List ℕ → ℕ
+pastLast place [] = place
+pastLast place (q ∷ qs) = pastLast (q + 1) qs
+
+-- where to go on: past all queues where every line is written, else just after the last queue written
 unfoldable pub nextPlace : ℕ → ℕ → Bits → ℕ
-nextPlace n place m =
-    cond (leb (length (queuesAt place m)) (n / lineSize)) queues (getD (queuesAt place m) (n / lineSize - 1) 0 + 1)
+nextPlace n place m = cond (leb (length (queuesAt place m)) (n / lineSize)) queues (pastLast place (fitting n place m))

@@ -3,9 +3,9 @@
 use native.Mathlib.Omega.{arith}
 use borrow.Author.Needs.{needs}
 use borrow.Author.Tests.{lt-ltb, le-ltb}
-use Rattle.listing.specs.Lines.{hexDigit}
-use Rattle.listing.proofs.hex_digit.Statement.{statement}
-use Rattle.listing.proofs.hex_digit.Tie as tie
+use Rattle.lines.specs.Lines.{hexDigit}
+use Rattle.lines.proofs.hex_digit.Statement.{statement}
+use Rattle.lines.proofs.hex_digit.Tie as tie
 
 returns : tie.Need-returns
 unfolding hexDigit
