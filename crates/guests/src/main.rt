@@ -1,6 +1,6 @@
 // The three guests of the kernel's document on vfio-ap, from a bare record to running; then the accident: a rehearsal guest asks for
 // the live queue, and is refused by name.
-use bind::Swept;
+use sweep::Swept;
 use mask::Mask;
 use rules::Answer;
 use rules::Configuration;
@@ -66,7 +66,7 @@ fn step(words: &mut Words, drivers: &mut Drivers, who: u8, what: u8, text: &[u8]
     };
     match what {
         b'm' => list(words, drivers, id),
-        b's' => moves(bind::sweep(words, drivers, 131072)),
+        b's' => moves(sweep::sweep(words, drivers, 131072)),
         b'f' | b'p' | b'q' | b'k' => answer(host(words, drivers, what, text)),
         _ => answer(device(words, what, id, text)),
     }

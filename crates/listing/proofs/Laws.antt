@@ -18,7 +18,7 @@ use Rattle.rules.specs.declared.Matrix.{Matrix}
 use Rattle.rules.specs.State.{State, slots, inProduct}
 use Rattle.rules.specs.Commands.{answered, slotOf}
 use Rattle.rules.proofs.Products.{in-product}
-use Rattle.record.specs.Layout.{stateIn, deviceIn}
+use Rattle.layout.specs.Layout.{stateIn, deviceIn}
 use Rattle.guest.specs.Masks.{HasMasks}
 use Rattle.lines.specs.Lines.{lineSize, queuesAt}
 use Rattle.lines.specs.Written.{Written}

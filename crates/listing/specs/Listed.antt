@@ -15,7 +15,7 @@ use Rattle.rules.specs.declared.Matrix.{Matrix}
 use Rattle.rules.specs.State.{State, inProduct, slots}
 use Rattle.rules.specs.Queues.{matrixAdapters, matrixDomains}
 use Rattle.rules.specs.Commands.{answered, slotOf}
-use Rattle.record.specs.Lent.{deviceWith}
+use Rattle.layout.specs.Lent.{deviceWith}
 use Rattle.lines.specs.Lines.{lineSize}
 use Rattle.lines.specs.Written.{Written}
 use Rattle.listing.specs.declared.Listed.{Listed}

@@ -2,11 +2,11 @@
 //
 // Rests on errno, mask, rules, record, product, lookup, guest and lines.
 use errno::Errno;
+use layout::Drivers;
+use layout::SLOTS;
+use layout::Words;
 use lines::LINE;
 use product::Product;
-use record::Drivers;
-use record::SLOTS;
-use record::Words;
 use rules::Answer;
 use rules::Id;
 use rules::Masks;
@@ -17,7 +17,7 @@ ghost use Rattle.errno.specs.Errno.{numberOf};
 ghost use Rattle.mask.specs.Bits.{bits};
 ghost use Rattle.rules.specs.State.{inProduct};
 ghost use Rattle.rules.specs.Commands.{answered};
-ghost use Rattle.record.specs.Lent.{state};
+ghost use Rattle.layout.specs.Lent.{state};
 ghost use Rattle.lines.specs.Lines.{queuesAt};
 ghost use Rattle.listing.specs.Listed.{Listing};
 
