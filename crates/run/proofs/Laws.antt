@@ -6,10 +6,10 @@ use native.Mathlib.Omega.{arith}
 use mathlib.Core.Bool.{Bool, true, false, cond, _&&_, true≢false}
 use mathlib.Core.List.{List, [], _∷_, _++_, append-nil, append-assoc}
 use mathlib.Core.Path.{_≡_, refl, sym, ap, ap₂, subst, _∙_}
-use lib.Dec.{leb, eqb}
+use lib.Dec.{leb}
 use lib.ListN.{length, getD, set, take, drop, length-set, length-drop, take-append-drop}
 use lib.Seq.{append-snoc, length-take-le, take-all, take-suc-set, drop-set-lt, drop-drop}
-use borrow.Author.Tests.{leb-true, le-leb, ne-eqb}
+use borrow.Author.Tests.{leb-true, le-leb}
 use Rattle.errno.specs.Outcome.{Outcome, granted, refused}
 use Rattle.errno.specs.declared.Errno.the-variants.{Einval}
 use Rattle.rules.specs.declared.Answer.{Answer}
@@ -22,10 +22,10 @@ use Rattle.model.specs.Steps as Steps
 use Rattle.calls.specs.Calls.{Call, Chain, begins, goesOn}
 use Rattle.calls.proofs.Chains.{called, reached, demanded}
 use Rattle.fields.specs.Fields.{halfAt, idOf, kindOf}
-use Rattle.encoding.specs.Encoding.{Request, command, move, sweep, sizeOf, requestOf, whole, decode}
+use Rattle.encoding.specs.Encoding.{Request, command, sweep, sizeOf, requestOf, whole, decode}
 use Rattle.rules.specs.declared.Id.{Id}
 use Rattle.rules.specs.declared.Kind.{Kind}
-use Rattle.request.proofs.Laws.{as-asked}
+use Rattle.request.proofs.Laws.{as-asked, is-command, is-sweep}
 use Rattle.request.specs.Requests.{stepsFor, Stepped, commandOf}
 use Rattle.run.specs.Running.{stepsOf, leavesAll, answerBytes, GoesOn, CarriedOut, Run}
 
@@ -34,24 +34,6 @@ use Rattle.run.specs.Running.{stepsOf, leavesAll, answerBytes, GoesOn, C
 -- a part up to the end is all that follows
 pub payload : (k : ℕ) (b : List ℕ) → take (length b - k) (drop k b) ≡ drop k b
 payload k b = take-all (length b - k) (drop k b) (omega (arith, length-drop k b))
-
--- the request of an operation: a command, a sweep, or a move
-pub is-command : (b : List ℕ) → getD b 0 0 ≤ 8 → requestOf b ≡ command (commandOf (getD b 0 0) (kindOf (getD b 1 0)) (idOf (drop 2 b)) (drop 20 b))
-unfolding requestOf commandOf
-is-command b h = go (getD b 0 0) refl h
-  where
-    go : (n : ℕ) → getD b 0 0 ≡ n → n ≤ 8
-        → requestOf b ≡ command (commandOf (getD b 0 0) (kindOf (getD b 1 0)) (idOf (drop 2 b)) (drop 20 b))
-    go zero e h = rw e
-    go (suc zero) e h = rw e
-    go (suc (suc zero)) e h = rw e
-    go (suc (suc (suc zero))) e h = rw e
-    go (suc (suc (suc (suc zero)))) e h = rw e
-    go (suc (suc (suc (suc (suc zero))))) e h = rw e
-    go (suc (suc (suc (suc (suc (suc zero)))))) e h = rw e
-    go (suc (suc (suc (suc (suc (suc (suc zero))))))) e h = rw e
-    go (suc (suc (suc (suc (suc (suc (suc (suc zero)))))))) e h = rw e
-    go (suc (suc (suc (suc (suc (suc (suc (suc (suc n))))))))) e h = absurd (omega arith)
 
 -- the command of the parts that were read
 pub of-parts : (b : List ℕ) {k : Kind} {i : Id} {m n : Memory} (a : Answer) {r : ℕ} → getD b 0 0 ≤ 8 → k ≡ kindOf (getD b 1 0)
@@ -62,18 +44,9 @@ of-parts b {k} {i} {m} {n} a {r} h ek ei er s =
     let parts : commandOf (getD b 0 0) k i (take (length b - 20) (drop 20 b)) ≡ commandOf (getD b 0 0) (kindOf (getD b 1 0)) (idOf (drop 2 b)) (drop 20 b) = λ j. commandOf (getD b 0 0) (ek j) (id j) (payload 20 b j) in
     subst (Stepped (requestOf b) m n) (sym er) (as-asked (is-command b h ∙ ap command (sym parts)) s)
 
-pub is-sweep : (b : List ℕ) {n : ℕ} → getD b 0 0 ≡ 10 → n ≡ halfAt (take (length b - 2) (drop 2 b)) 0 → requestOf b ≡ sweep n
-unfolding requestOf
-is-sweep b {n} e f =
-    let budget : n ≡ halfAt (drop 2 b) 0 = f ∙ ap (λ (l : List ℕ). halfAt l 0) (payload 2 b) in
-    rw (e, budget)
-
-pub is-move : (b : List ℕ) → 8 < getD b 0 0 → (getD b 0 0 ≡ 10 → ⊥) → requestOf b ≡ move (getD b 2 0) (getD b 3 0)
-unfolding requestOf
-is-move b h t =
-    let n = getD b 0 0 in
-    let other : (k : ℕ) → k ≤ 8 → eqb n k ≡ false = λ k l. ne-eqb n k (λ e. omega arith) in
-    rw (other 0 (omega arith), other 1 (omega arith), other 2 (omega arith), other 3 (omega arith), other 4 (omega arith), other 5 (omega arith), other 6 (omega arith), other 7 (omega arith), other 8 (omega arith), ne-eqb n 10 t)
+-- the sweep of the budget that was read
+pub of-budget : (b : List ℕ) {n : ℕ} → getD b 0 0 ≡ 10 → n ≡ halfAt (take (length b - 2) (drop 2 b)) 0 → requestOf b ≡ sweep n
+of-budget b e f = is-sweep b e ∙ ap sweep (sym (f ∙ ap (λ (l : List ℕ). halfAt l 0) (payload 2 b)))
 
 -- ---- the steps of a list
 

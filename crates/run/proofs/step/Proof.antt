@@ -2,8 +2,8 @@
 -- Assumes nothing.
 use denote.Ref.{now}
 use borrow.Author.Needs.{needs}
-use Rattle.request.proofs.Laws.{as-asked}
-use Rattle.run.proofs.Laws.{is-sweep, is-move}
+use Rattle.request.proofs.Laws.{as-asked, is-move}
+use Rattle.run.proofs.Laws.{of-budget}
 use Rattle.run.proofs.step.Statement.{statement}
 use Rattle.run.proofs.step.Tie as tie
 
@@ -13,7 +13,7 @@ returns c = c .obey .ensures (c .before .before .before .if1 .taken)
 returns-2 : tie.Need-returns-2
 returns-2 c =
     let b = now (c .before .before .before .before .before .before .before .before .before .args .bytes) in
-    as-asked (is-sweep b (c .before .before .before .before .before .if2 .taken) (c .before .number-of .ensures)) (c .make-sweep .ensures)
+    as-asked (of-budget b (c .before .before .before .before .before .if2 .taken) (c .before .number-of .ensures)) (c .make-sweep .ensures)
 
 returns-3 : tie.Need-returns-3
 returns-3 c =
