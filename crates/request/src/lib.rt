@@ -1,6 +1,6 @@
 // Carries out one request, by the function that a caller would call.
 //
-// Rests on errno, mask, rules, record, bind, devices, assign, host, model, fields, encoding and calls.
+// Rests on mask, rules, record, bind, devices, assign, host, model, fields, encoding and calls.
 use mask::Apid;
 use mask::Apqi;
 use record::Drivers;

@@ -1,10 +1,10 @@
 -- What carrying out a list of requests does: demand 3 as the contract of running code.
 -- The rules: RULES.md, "Reference model and demand 3".
 -- Assumes nothing.
-use Prim.Native.Nat.{ℕ, _≤_}
+use Prim.Native.Nat.{ℕ}
 use mathlib.Core.List.{List, [], _∷_, _++_}
 use mathlib.Core.Path.{_≡_}
-use lib.ListN.{length, getD, drop}
+use lib.ListN.{length, drop}
 use denote.Ref.{now}
 use Rattle.rules.specs.State.{Limits, State, fresh}
 use Rattle.mask.specs.declared.Apid.{Apid}
@@ -70,10 +70,6 @@ pub record Run (l : Limits) (bytes before after : List ℕ) (m : Memory) (r : �
 abbrev pub StepsOnce : Lent → Lent → Lent → Lent → Lent → ℕ → Type 0
 StepsOnce bytes words words′ drivers drivers′ r =
     Stepped (requestOf (now bytes)) (memory (now words) (now drivers)) (memory (now words′) (now drivers′)) r
-
--- where the operation is a command's
-abbrev pub ObeysOnce : Lent → Lent → Lent → Lent → Lent → ℕ → Type 0
-ObeysOnce bytes words words′ drivers drivers′ r = getD (now bytes) 0 0 ≤ 8 → StepsOnce bytes words words′ drivers drivers′ r
 
 abbrev pub CarriesOut : Lent → Lent → Lent → Lent → Lent → Lent → Lent → ℕ → Type 0
 CarriesOut steps before after words words′ drivers drivers′ r =

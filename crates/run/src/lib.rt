@@ -6,8 +6,8 @@ use mask::Apqi;
 use record::Drivers;
 use record::Words;
 ghost use Prim.Native.Nat.{_≤_};
-ghost use lib.ListN.{length};
-ghost use Rattle.run.specs.Running.{StepsOnce, ObeysOnce, CarriesOut, Runs};
+ghost use lib.ListN.{length, getD};
+ghost use Rattle.run.specs.Running.{StepsOnce, CarriesOut, Runs};
 
 // Makes the lent memory a fresh record, carries out the requests, and writes a byte of answer for each. It answers how many
 // it carried out: those for which there is room for an answer.
@@ -66,8 +66,8 @@ fn step(words: &mut Words, drivers: &mut Drivers, bytes: &[u8]) -> u8
 
 // Carries out a command, and gives its answer as a byte.
 fn obey(words: &mut Words, drivers: &mut Drivers, bytes: &[u8]) -> u8
-    requires { ⌜ 20 ≤ length (now bytes) ⌝ }
-    ensures { λ r. ⌜ ObeysOnce (bytes .entry) (words .entry) (words .exit) (drivers .entry) (drivers .exit) r ⌝ }
+    requires { ⌜ (20 ≤ length (now bytes)) × (getD (now bytes) 0 0 ≤ 8) ⌝ }
+    ensures { λ r. ⌜ StepsOnce (bytes .entry) (words .entry) (words .exit) (drivers .entry) (drivers .exit) r ⌝ }
 {
     let kind = fields::kind_of(bytes[1]);
     let id = fields::id_of(&bytes[2..]);

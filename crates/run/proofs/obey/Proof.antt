@@ -7,9 +7,9 @@ use Rattle.run.proofs.obey.Statement.{statement}
 use Rattle.run.proofs.obey.Tie as tie
 
 returns : tie.Need-returns
-returns c = λ h.
-    let b = now (c .before .before .before .before .before .before .before .before .before .before .before .args .bytes) in
-    of-parts b (c .before .command .result) h (c .before .before .before .before .before .before .before .before .kind-of .ensures)
+returns c =
+    let s = c .before .before .before .before .before .before .before .before .before .before .before in
+    of-parts (now (s .args .bytes)) (c .before .command .result) (s .pre .1) (c .before .before .before .before .before .before .before .before .kind-of .ensures)
     (c .before .before .before .before .before .before .id-of .ensures) (c .answer-number .ensures) (c .before .command .ensures)
 
 pub obey-spec : {M : Type 1} → statement M

@@ -8,7 +8,7 @@ use Rattle.run.proofs.step.Statement.{statement}
 use Rattle.run.proofs.step.Tie as tie
 
 returns : tie.Need-returns
-returns c = c .obey .ensures (c .before .before .before .if1 .taken)
+returns c = c .obey .ensures
 
 returns-2 : tie.Need-returns-2
 returns-2 c =
