@@ -1,39 +1,33 @@
--- What assigning writes and reads, and the tests of the rules at a number.
+-- What assigning writes and reads, the rule at a slot, and the place of a number.
 -- Assumes nothing.
-use Prim.Native.Nat.{ℕ, zero, suc, _+_, _^_, _≤_, _<_, _%_}
+use Prim.Native.Nat.{ℕ, zero, suc, _+_, _^_, _<_}
 use native.Mathlib.Omega.{arith}
-use mathlib.Core.Bool.{Bool, true, false, cond, _||_, or-false}
+use mathlib.Core.Bool.{Bool, true, false, cond}
 use mathlib.Core.List.{List, []}
-use mathlib.Core.Path.{_≡_, refl, sym, ap, ap₂, subst, _∙_, fun-ext}
+use mathlib.Core.Path.{_≡_, refl, sym, ap, ap₂, _∙_}
 use lib.ListN.{getD}
-use lib.Dec.{eqb, leb}
-use borrow.Author.Tests.{eqb-true, leb-true}
+use lib.Dec.{ltb, leb}
+use borrow.Author.Tests.{ltb-true}
 use Rattle.errno.specs.Outcome.{Outcome, granted, refused}
-use Rattle.errno.specs.declared.Errno.the-variants.{Enodev, Einval, Eaddrinuse, Eaddrnotavail}
+use Rattle.errno.specs.declared.Errno.{Errno}
+use Rattle.errno.specs.declared.Errno.the-variants.{Enoent, Enodev}
 use Rattle.mask.specs.declared.Mask.{Mask}
-use Rattle.mask.specs.Bits.{Sized, Bits, bits, someBelow, both, included, noBits}
+use Rattle.mask.specs.Bits.{Sized, Bits, bits, included}
 use Rattle.number.specs.Text.{numberText}
 use Rattle.rules.specs.declared.Answer.{Answer}
-use Rattle.rules.specs.declared.Answer.the-variants.{Done, Refused}
-use Rattle.errno.specs.declared.Errno.{Errno}
+use Rattle.rules.specs.declared.Answer.the-variants.{Refused}
 use Rattle.rules.specs.declared.Id.{Id}
 use Rattle.rules.specs.declared.Kind.{Kind}
-use Rattle.rules.specs.declared.Kind.the-variants.{Adapter, Domain, Control}
-use Rattle.rules.specs.State.{State, slots, queues, inProduct}
-use Rattle.rules.specs.Queues.{reserved}
-use Rattle.rules.specs.Commands.{numbersOf, withNumbers, withDevice, single, onDevice, slotOf, limitOf, reading, assignAt, adding, paired, assignedElsewhere, assign}
-use Rattle.layout.specs.Carried.{CarriedWords}
-use Rattle.layout.specs.Layout.{wordCount, four, maskAt, deviceIn, limitsIn, hostIn, stateIn, wordsOf, putFour, putNumbers, deviceAt, kindAt}
-use Rattle.layout.proofs.Laws.{cond-below, device-there, numbers-there, words-of, put-same, read-numbers, refused-carried}
-use Rattle.lookup.proofs.Found.{known}
+use Rattle.rules.specs.State.{State, slots}
+use Rattle.rules.specs.Commands.{numbersOf, withNumbers, withDevice, onDevice, slotOf, limitOf, reading, assignAt, adding, paired, assign}
 use Rattle.rules.specs.Refusals.{RefusedExactly}
 use Rattle.rules.proofs.Refusals.{absorbed, refused-exactly}
-use Rattle.assign.specs.Numbers.{value, changed, assigned, answerOf}
-
--- a number alone, as a mask with one bit set
-pub one-bit : (n : ℕ) → included n noBits ≡ single n
-unfolding included noBits single
-one-bit n = fun-ext (λ i. or-false (eqb i n))
+use Rattle.layout.specs.Carried.{CarriedWords}
+use Rattle.layout.specs.Layout.{wordCount, four, maskAt, deviceIn, limitsIn, hostIn, stateIn, wordsOf, putFour, putNumbers, deviceAt, kindAt}
+use Rattle.layout.proofs.Laws.{cond-below, device-there, numbers-there, words-of, put-same, read-numbers, refused-carried, carried-as}
+use Rattle.assign.specs.Numbers.{value, changed, assigned, placeIn}
+use Rattle.assign.specs.declared.Place.{Place}
+use Rattle.assign.specs.declared.Place.the-variants.{At, Nowhere}
 
 -- four of the record's words
 four-words : {ws : List ℕ} → Sized 64 wordCount ws → (k : ℕ) → Sized 64 4 (four ws k)
@@ -68,27 +62,6 @@ module _ (ws : List ℕ) (k : Kind) (p : ℕ) (held : Sized 64 wordCount ws) (th
         ap (λ (l : List ℕ). stateIn l qs) (sym put-changed) ∙ read-numbers ws qs p (held .long) there k (m .words) (words .long)
         ∙ ap (λ (b : Bits). withDevice p (withNumbers k b (deviceIn ws p)) (stateIn ws qs)) made
 
--- ---- the limit of a kind
-
-limit-small : (k : Kind) (ws : List ℕ) → limitOf k (limitsIn ws) ≤ 255
-unfolding limitOf limitsIn
-limit-small Adapter ws = omega arith
-limit-small Domain ws = omega arith
-limit-small Control ws = omega arith
-
--- a number in range is below 256
-pub in-range-small : (k : Kind) (ws : List ℕ) (n : ℕ) → leb n (limitOf k (limitsIn ws)) ≡ true → n % 256 ≡ n
-in-range-small k ws n e = omega (arith, leb-true n (limitOf k (limitsIn ws)) e, limit-small k ws)
-
--- the device is at slot p, and t says whether the number is in range
-pub by-range : (k : Kind) (i : Id) (n : ℕ) (ws qs : List ℕ) (p : ℕ) → p ≡ slotOf i (deviceIn ws) → p < slots → (t : Bool) → t ≡ leb n (limitOf k (limitsIn ws))
-    → (next : ℕ → Outcome State)
-    → onDevice i (stateIn ws qs) (λ j. cond (leb n (limitOf k (stateIn ws qs .limits))) (next j) (refused Enodev)) ≡ cond t (next p) (refused Enodev)
-unfolding stateIn
-by-range k i n ws qs p at there t e next =
-    known i ws qs p at (λ j. cond (leb n (limitOf k (limitsIn ws))) (next j) (refused Enodev)) there
-    ∙ ap (λ (b : Bool). cond b (next p) (refused Enodev)) (sym e)
-
 -- ---- the rule at a slot
 
 module _ (k : Kind) (n p : ℕ) (ws qs : List ℕ) where
@@ -109,52 +82,86 @@ module _ (k : Kind) (n p : ℕ) (ws qs : List ℕ) where
       ap (λ (b : Bool). cond b (granted (stateIn ws qs)) (adding (paired k n (deviceIn ws p)) p (stateIn ws qs) numbered)) none
       ∙ ap (λ (b : Bits). adding b p (stateIn ws qs) numbered) (sym pairs) ∙ h
 
--- what a test of the queues to be added finds
-pub by-tests : (m : Bits) (p : ℕ) (ws qs : List ℕ) (t : State) (x y : Bool) → x ≡ someBelow queues (both m (reserved (hostIn ws)))
-    → y ≡ someBelow queues (both m (assignedElsewhere p (deviceIn ws)))
-    → cond x (Refused Eaddrnotavail) (cond y (Refused Eaddrinuse) Done) ≡ answerOf (adding m p (stateIn ws qs) t)
-unfolding adding stateIn
-by-tests m p ws qs t x y e f =
-    ap₂ (λ (a b : Bool). cond a (Refused Eaddrnotavail) (cond b (Refused Eaddrinuse) Done)) e f
-    ∙ go (someBelow queues (both m (reserved (hostIn ws)))) (someBelow queues (both m (assignedElsewhere p (deviceIn ws))))
-  where
-    go : (a b : Bool) → cond a (Refused Eaddrnotavail) (cond b (Refused Eaddrinuse) Done)
-        ≡ answerOf (cond a (refused Eaddrnotavail) (cond b (refused Eaddrinuse) (granted t)))
-    go true b = refl
-    go false true = refl
-    go false false = refl
+-- ---- the place of a number
 
--- an answer that is told tells the outcome
-pub refused-as : (o : Outcome State) (e : Errno) → Refused e ≡ answerOf o → o ≡ refused e
-refused-as (granted s) e h = let z : _≡_ {A = ℕ} 0 1 = cc in absurd (omega arith)
-refused-as (refused f) e h = cc
+module _ (k : Kind) (i : Id) (text ws : List ℕ) where
+  -- a rule for the device with the id and the number of the text
+  abbrev asked : (ℕ → ℕ → State → Outcome State) → State → Outcome State
+  asked next s = reading (numberText text) (λ n. onDevice i s (λ p. cond (leb n (limitOf k (s .limits))) (next n p s) (refused Enodev)))
 
-pub done-as : (m : Bits) (p : ℕ) (s t : State) → Done ≡ answerOf (adding m p s t) → adding m p s t ≡ granted t
-unfolding adding
-done-as m p s t h = go (someBelow queues (both m (reserved (s .host)))) (someBelow queues (both m (assignedElsewhere p (s .device)))) h
-  where
-    go : (a b : Bool) → Done ≡ answerOf (cond a (refused Eaddrnotavail) (cond b (refused Eaddrinuse) (granted t)))
-        → cond a (refused Eaddrnotavail) (cond b (refused Eaddrinuse) (granted t)) ≡ granted t
-    go true b h = let z : _≡_ {A = ℕ} 0 1 = cc in absurd (omega arith)
-    go false true h = let z : _≡_ {A = ℕ} 0 1 = cc in absurd (omega arith)
-    go false false h = refl
+  -- the same at a place
+  abbrev placed : (ℕ → ℕ → State → Outcome State) → Place → State → Outcome State
+  placed next (At p n) s = next n p s
+  placed next (Nowhere e) s = refused e
 
--- ---- the text of a number
+  by-place : (next : ℕ → ℕ → State → Outcome State) (r : Place) → r ≡ placeIn k i ws (numberText text) → (qs : List ℕ)
+      → asked next (stateIn ws qs) ≡ placed next r (stateIn ws qs)
+  unfolding placeIn reading onDevice stateIn
+  by-place next r e qs = go (numberText text) ∙ ap (λ (x : Place). placed next x s) (sym e)
+    where
+      s : State
+      s = stateIn ws qs
 
-module _ (rule : ℕ → State → Outcome State) (effect : ℕ → List ℕ → List ℕ) (text ws : List ℕ) where
-  -- the number that a text says
-  pub by-number : (n : ℕ) (vs : List ℕ) (r : Answer) → numberText text ≡ granted n → CarriedWords (rule n) (effect n) ws vs r
-      → CarriedWords (λ s. reading (numberText text) (λ m. rule m s)) (effect (value (numberText text))) ws vs r
-  unfolding reading value
-  by-number n vs r e =
-      subst (λ (o : Outcome ℕ). CarriedWords (rule n) (effect n) ws vs r → CarriedWords (λ s. reading o (λ m. rule m s)) (effect (value o)) ws vs r) (sym e) (λ h. h)
+      p : ℕ
+      p = slotOf i (deviceIn ws)
 
-  -- bad text
-  pub by-none : numberText text ≡ refused Einval → CarriedWords (λ s. reading (numberText text) (λ m. rule m s)) (effect (value (numberText text))) ws ws (Refused Einval)
-  unfolding reading
-  by-none e =
-      refused-carried (λ s. reading (numberText text) (λ m. rule m s)) (effect (value (numberText text))) ws Einval
-      (λ qs. ap (λ (o : Outcome ℕ). reading o (λ m. rule m (stateIn ws qs))) e)
+      tests : (n : ℕ) (a b : Bool) → cond a (cond b (next n p s) (refused Enodev)) (refused Enoent)
+          ≡ placed next (cond a (cond b (At p n) (Nowhere Enodev)) (Nowhere Enoent)) s
+      tests n true true = refl
+      tests n true false = refl
+      tests n false b = refl
+
+      go : (o : Outcome ℕ) → reading o (λ n. onDevice i s (λ p. cond (leb n (limitOf k (s .limits))) (next n p s) (refused Enodev)))
+          ≡ placed next (placeIn k i ws o) s
+      go (granted n) = tests n (ltb p slots) (leb n (limitOf k (limitsIn ws)))
+      go (refused e) = refl
+
+  -- a number that goes to slot p
+  pub record Goes (p n : ℕ) : Type 0 where
+    pub slot : p ≡ slotOf i (deviceIn ws)
+    pub number : n ≡ value (numberText text)
+    pub there : p < slots
+
+  pub goes : {p n : ℕ} → At p n ≡ placeIn k i ws (numberText text) → Goes p n
+  unfolding placeIn value
+  goes {p} {n} h = go (numberText text) refl h
+    where
+      q : ℕ
+      q = slotOf i (deviceIn ws)
+
+      tests : (m : ℕ) → granted m ≡ numberText text → (a b : Bool) → ltb q slots ≡ a
+          → At p n ≡ cond a (cond b (At q m) (Nowhere Enodev)) (Nowhere Enoent) → Goes p n
+      tests m f true true e h =
+          let s : p ≡ q = cc in
+          let v : n ≡ m = cc in
+          record { slot = s; number = v ∙ ap value f; there = omega (arith, ltb-true q slots e) }
+      tests m f true false e h = let z : _≡_ {A = ℕ} 0 1 = cc in absurd (omega arith)
+      tests m f false b e h = let z : _≡_ {A = ℕ} 0 1 = cc in absurd (omega arith)
+
+      go : (o : Outcome ℕ) → o ≡ numberText text → At p n ≡ placeIn k i ws o → Goes p n
+      go (granted m) f h = tests m f (ltb q slots) (leb m (limitOf k (limitsIn ws))) refl h
+      go (refused e) f h = let z : _≡_ {A = ℕ} 0 1 = cc in absurd (omega arith)
+
+  -- a rule that is carried out at the place, or refused there
+  pub at-place : (next : ℕ → ℕ → State → Outcome State) (change : ℕ → ℕ → List ℕ → List ℕ) {p n : ℕ} {vs : List ℕ} {r : Answer}
+      → At p n ≡ placeIn k i ws (numberText text) → CarriedWords (next n p) (change p n) ws vs r
+      → CarriedWords (asked next) (λ l. change (slotOf i (deviceIn l)) (value (numberText text)) l) ws vs r
+  at-place next change {p} {n} e c =
+      carried-as (next n p) (asked next) (change p n) (λ l. change (slotOf i (deviceIn l)) (value (numberText text)) l) ws
+      (by-place next (At p n) e) (ap₂ (λ (j m : ℕ). change j m ws) (sym (goes e .slot)) (sym (goes e .number))) c
+
+  pub no-place : (next : ℕ → ℕ → State → Outcome State) (effect : List ℕ → List ℕ) {e : Errno}
+      → Nowhere e ≡ placeIn k i ws (numberText text) → CarriedWords (asked next) effect ws ws (Refused e)
+  no-place next effect {e} h = refused-carried (asked next) effect ws e (by-place next (Nowhere e) h)
+
+  -- the place, by what the two tests find of a number that was read
+  pub by-tests : (n p : ℕ) → numberText text ≡ granted n → p ≡ slotOf i (deviceIn ws) → {a b : Bool} → ltb p slots ≡ a
+      → leb n (limitOf k (limitsIn ws)) ≡ b
+      → cond a (cond b (At p n) (Nowhere Enodev)) (Nowhere Enoent) ≡ placeIn k i ws (numberText text)
+  unfolding placeIn
+  by-tests n p e f ta tb =
+      sym (ap (placeIn k i ws) e ∙ ap (λ (j : ℕ). cond (ltb j slots) (cond (leb n (limitOf k (limitsIn ws))) (At j n) (Nowhere Enodev)) (Nowhere Enoent)) (sym f)
+      ∙ ap₂ (λ (a b : Bool). cond a (cond b (At p n) (Nowhere Enodev)) (Nowhere Enoent)) ta tb)
 
 -- the answer is a refusal exactly where demand 2 says
 pub exact : (k : Kind) (i : Id) (text ws : List ℕ) {vs : List ℕ} {r : Answer} → CarriedWords (assign k i text) (assigned k i text) ws vs r

@@ -2,22 +2,25 @@
 -- The rules: RULES.md, "Commands".
 -- Assumes nothing.
 use Prim.Native.Nat.{ℕ}
+use mathlib.Core.Bool.{cond}
 use mathlib.Core.List.{List}
-use mathlib.Core.Path.{_≡_}
+use lib.Dec.{ltb, leb}
 use denote.Ref.{now}
 use Rattle.errno.specs.Outcome.{Outcome, granted, refused}
+use Rattle.errno.specs.declared.Errno.the-variants.{Enoent, Enodev}
 use Rattle.mask.specs.Bits.{Bits, included, excluded}
 use Rattle.number.specs.Text.{numberText}
 use Rattle.rules.specs.declared.Id.{Id}
 use Rattle.rules.specs.declared.Kind.{Kind}
 use Rattle.rules.specs.declared.Answer.{Answer}
-use Rattle.rules.specs.declared.Answer.the-variants.{Done, Refused}
-use Rattle.rules.specs.State.{State}
-use Rattle.rules.specs.Commands.{slotOf, numbersOf, adding, assign, unassign}
+use Rattle.rules.specs.State.{slots}
+use Rattle.rules.specs.Commands.{slotOf, limitOf, numbersOf, assign, unassign}
 use Rattle.rules.specs.Refusals.{RefusedExactly}
-use Rattle.layout.specs.Layout.{stateIn, limitsIn, hostIn, deviceIn, putNumbers, wordsOf}
+use Rattle.layout.specs.Layout.{limitsIn, hostIn, deviceIn, putNumbers, wordsOf}
 use Rattle.layout.specs.Lent.{Lent}
 use Rattle.layout.specs.Carried.{CarriedWords, Obeys}
+use Rattle.assign.specs.declared.Place.{Place}
+use Rattle.assign.specs.declared.Place.the-variants.{At, Nowhere}
 
 -- the value of a text's number; bad text has none, and 0 stands for it
 unfoldable pub value : Outcome ℕ → ℕ
@@ -35,28 +38,23 @@ assignedAt k p n ws = changed ws k p (included n)
 abbrev pub unassignedAt : Kind → ℕ → ℕ → List ℕ → List ℕ
 unassignedAt k p n ws = changed ws k p (excluded n)
 
--- the same for the device with an id
-abbrev pub assignedNumber : Kind → Id → ℕ → List ℕ → List ℕ
-assignedNumber k i n ws = assignedAt k (slotOf i (deviceIn ws)) n ws
-
-abbrev pub unassignedNumber : Kind → Id → ℕ → List ℕ → List ℕ
-unassignedNumber k i n ws = unassignedAt k (slotOf i (deviceIn ws)) n ws
-
--- the same with the number that a text says
+-- the same for the device with an id and the number that a text says
 abbrev pub assigned : Kind → Id → List ℕ → List ℕ → List ℕ
-assigned k i text = assignedNumber k i (value (numberText text))
+assigned k i text ws = assignedAt k (slotOf i (deviceIn ws)) (value (numberText text)) ws
 
 abbrev pub unassigned : Kind → Id → List ℕ → List ℕ → List ℕ
-unassigned k i text = unassignedNumber k i (value (numberText text))
+unassigned k i text ws = unassignedAt k (slotOf i (deviceIn ws)) (value (numberText text)) ws
 
--- the answer that an outcome comes to
-abbrev pub answerOf : Outcome State → Answer
-answerOf (granted s) = Done
-answerOf (refused e) = Refused e
+-- where a number that was read goes: the slot of the device with an id, and the number; ENOENT, then ENODEV
+unfoldable pub placeIn : Kind → Id → List ℕ → Outcome ℕ → Place
+placeIn k i ws (granted n) =
+    cond (ltb (slotOf i (deviceIn ws)) slots)
+    (cond (leb n (limitOf k (limitsIn ws))) (At (slotOf i (deviceIn ws)) n) (Nowhere Enodev)) (Nowhere Enoent)
+placeIn k i ws (refused e) = Nowhere e
 
--- whether some queues can be added to the device at slot p: EADDRNOTAVAIL, then EADDRINUSE, whatever the drivers and the next state are
-abbrev pub Admits : Bits → ℕ → Lent → Answer → Type 0
-Admits new p words r = (qs : List ℕ) (t : State) → r ≡ answerOf (adding new p (stateIn (now words) qs) t)
+-- the same of the number that a text says, and of lent memory
+abbrev pub placeOf : Kind → Id → Lent → Lent → Place
+placeOf k i text words = placeIn k i (now words) (numberText (now text))
 
 -- assigning the number of a text, on the words ws, which are left as vs
 pub record Assigning (k : Kind) (i : Id) (text ws vs : List ℕ) (r : Answer) : Type 0 where

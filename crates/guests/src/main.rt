@@ -1,12 +1,12 @@
 // The three guests of the kernel's document on vfio-ap, from a bare record to running; then the accident: a rehearsal guest asks for
 // the live queue, and is refused by name.
-use sweep::Swept;
 use mask::Mask;
 use rules::Answer;
 use rules::Configuration;
 use rules::Id;
 use rules::Kind;
 use rules::Matrix;
+use sweep::Swept;
 
 fn main() {
     let mut words = [0u64; WORDS];

@@ -1,90 +1,52 @@
 -- Laws of carrying out a list of requests: one request, and the list from an index on.
 -- Assumes nothing.
-use Prim.Native.Nat.{ℕ, zero, suc, _+_, _-_, _*_, _%_, _≤_, _<_}
+use Prim.Native.Nat.{ℕ, zero, suc, _+_, _-_, _≤_, _<_}
 use native.Mathlib.Nat.{zero-add, add-zero}
 use native.Mathlib.Omega.{arith}
-use mathlib.Core.Bool.{Bool, true, false, cond, not, _&&_, true≢false}
+use mathlib.Core.Bool.{Bool, true, false, cond, _&&_, true≢false}
 use mathlib.Core.List.{List, [], _∷_, _++_, append-nil, append-assoc}
 use mathlib.Core.Path.{_≡_, refl, sym, ap, ap₂, subst, _∙_}
-use lib.Dec.{leb, eqb}
+use lib.Dec.{leb}
 use lib.ListN.{length, getD, set, take, drop, length-set, length-drop, take-append-drop}
 use lib.Seq.{append-snoc, length-take-le, take-all, take-suc-set, drop-set-lt, drop-drop}
-use borrow.Author.Tests.{leb-true, le-leb, ne-eqb}
+use borrow.Author.Tests.{leb-true, le-leb}
 use Rattle.errno.specs.Outcome.{Outcome, granted, refused}
 use Rattle.errno.specs.declared.Errno.the-variants.{Einval}
 use Rattle.rules.specs.declared.Answer.{Answer}
-use Rattle.rules.specs.declared.Moved.{Moved}
 use Rattle.rules.specs.State.{Limits, State, fresh}
-use Rattle.rules.specs.Queues.{moveAnswer, movedNumber, remaining}
-use Rattle.rules.specs.Commands.{answered, errnoOf, stateAfter}
-use Rattle.layout.specs.Layout.{stateIn}
-use Rattle.layout.specs.Carried.{Memory, memory, read, memoryAfter, Carried}
+use Rattle.rules.specs.Commands.{answered, errnoOf}
+use Rattle.layout.specs.Carried.{Memory, read, memoryAfter, Carried}
 use Rattle.setup.specs.Fresh.{start, freshMemory}
-use Rattle.sweep.specs.declared.Swept.{Swept}
-use Rattle.bind.specs.Moves.{moveBytes, Moving}
-use Rattle.sweep.specs.Sweeps.{Sweeping}
-use Rattle.model.specs.Steps.{Command, Step, queueOf, rule, afterAll}
+use Rattle.model.specs.Steps.{Step, afterAll}
 use Rattle.model.specs.Steps as Steps
-use Rattle.model.specs.Sweeps.{sweepSteps}
-use Rattle.model.proofs.Sweeping.{sweep-steps}
-use Rattle.calls.specs.Calls.{effect, Call, moves, sweeps, Chain, begins, goesOn, Demanded}
+use Rattle.calls.specs.Calls.{Call, Chain, begins, goesOn}
 use Rattle.calls.proofs.Chains.{called, reached, demanded}
-use Rattle.encoding.specs.Encoding.{Request, command, move, sweep, sizeOf, requestOf, whole, decode}
-use Rattle.run.specs.Running.{stepsFor, stepsOf, leaves, leavesAll, answerByte, answerBytes, Stepped, GoesOn, CarriedOut, Run}
+use Rattle.fields.specs.Fields.{halfAt, idOf, kindOf}
+use Rattle.encoding.specs.Encoding.{Request, command, sweep, sizeOf, requestOf, whole, decode}
+use Rattle.rules.specs.declared.Id.{Id}
+use Rattle.rules.specs.declared.Kind.{Kind}
+use Rattle.request.proofs.Laws.{as-asked, is-command, is-sweep}
+use Rattle.request.specs.Requests.{stepsFor, Stepped, commandOf}
+use Rattle.run.specs.Running.{stepsOf, leavesAll, answerBytes, GoesOn, CarriedOut, Run}
 
 -- ---- one request
-
-pub as-asked : {x y : Request} {m n : Memory} {r : ℕ} → x ≡ y → Stepped y m n r → Stepped x m n r
-as-asked {x} {y} {m} {n} {r} e = subst (λ (z : Request). Stepped z m n r) (sym e)
-
--- a command
-pub obeyed : (b : List ℕ) (x : Command) (m n : Memory) (r : Answer) (byte : ℕ) → requestOf b ≡ command x → byte ≡ answered r
-    → Carried (rule x) (effect x) m n r → Call m n (Steps.command x ∷ []) (answered r ∷ []) → Stepped (requestOf b) m n byte
-unfolding answerByte leaves stepsFor
-obeyed b x m n r byte e f c k =
-    as-asked e (record { answer = f ∙ c .answer; memory = c .bytes; call = (answered r ∷ [], k) })
-
--- a move of the queue of two bytes
-pub moved : (a d : ℕ) (ws qs rs : List ℕ) (r : ℕ) (m : Moved) → a < 256 → d < 256 → r ≡ movedNumber m → Moving (a * 256 + d) ws qs rs m
-    → Stepped (move a d) (memory ws qs) (memory ws rs) r
-unfolding answerByte leaves stepsFor queueOf
-moved a d ws qs rs r m ha hd f c =
-    let queue : a * 256 + d ≡ a % 256 * 256 + d % 256 = omega arith in
-    record {
-      answer = f ∙ ap movedNumber (c .answer) ∙ ap (λ (n : ℕ). movedNumber (moveAnswer n (stateIn ws qs))) queue;
-      memory = ap (memory ws) (c .drivers) ∙ ap (λ (n : ℕ). memory ws (moveBytes ws n qs)) queue;
-      call = ([], moves a d m ha hd c refl);
-    }
-
--- a sweep
-swept-byte : (t more : Bool) (r : ℕ) → more ≡ not t → r ≡ cond more 1 0 → r ≡ cond t 0 1
-swept-byte true more r e f = f ∙ ap (λ (b : Bool). cond b 1 0) e
-swept-byte false more r e f = f ∙ ap (λ (b : Bool). cond b 1 0) e
-
-pub swept : (b : ℕ) (ws qs rs : List ℕ) (r : ℕ) (w : Swept) → r ≡ cond (w .more) 1 0 → Sweeping b ws qs rs w
-    → Stepped (sweep b) (memory ws qs) (memory ws rs) r
-unfolding answerByte leaves stepsFor
-swept b ws qs rs r w f c =
-    let s = stateIn ws qs in
-    let left : stateIn ws rs ≡ afterAll (sweepSteps b s) s = c .sweep .made ∙ sym (sweep-steps b s) in
-    record {
-      answer = swept-byte (eqb (remaining (afterAll (sweepSteps b s) s)) 0) (w .more) r (c .sweep .remain ∙ ap (λ (t : State). not (eqb (remaining t) 0)) left) f;
-      memory = ap (memory ws) (c .drivers);
-      call = ([], sweeps b w c refl);
-    }
-
--- an operation that is no command's and no sweep's
-pub is-move : (b : List ℕ) → (getD b 0 0 ≡ 0 → ⊥) → (getD b 0 0 ≡ 1 → ⊥) → (getD b 0 0 ≡ 2 → ⊥) → (getD b 0 0 ≡ 3 → ⊥) → (getD b 0 0 ≡ 4 → ⊥)
-    → (getD b 0 0 ≡ 5 → ⊥) → (getD b 0 0 ≡ 6 → ⊥) → (getD b 0 0 ≡ 7 → ⊥) → (getD b 0 0 ≡ 8 → ⊥) → (getD b 0 0 ≡ 10 → ⊥)
-    → requestOf b ≡ move (getD b 2 0) (getD b 3 0)
-unfolding requestOf
-is-move b h0 h1 h2 h3 h4 h5 h6 h7 h8 h10 =
-    let n = getD b 0 0 in
-    rw (ne-eqb n 0 h0, ne-eqb n 1 h1, ne-eqb n 2 h2, ne-eqb n 3 h3, ne-eqb n 4 h4, ne-eqb n 5 h5, ne-eqb n 6 h6, ne-eqb n 7 h7, ne-eqb n 8 h8, ne-eqb n 10 h10)
 
 -- a part up to the end is all that follows
 pub payload : (k : ℕ) (b : List ℕ) → take (length b - k) (drop k b) ≡ drop k b
 payload k b = take-all (length b - k) (drop k b) (omega (arith, length-drop k b))
+
+-- the command of the parts that were read
+pub of-parts : (b : List ℕ) {k : Kind} {i : Id} {m n : Memory} (a : Answer) {r : ℕ} → getD b 0 0 ≤ 8 → k ≡ kindOf (getD b 1 0)
+    → i ≡ idOf (take (length b - 2) (drop 2 b)) → r ≡ answered a
+    → Stepped (command (commandOf (getD b 0 0) k i (take (length b - 20) (drop 20 b)))) m n (answered a) → Stepped (requestOf b) m n r
+of-parts b {k} {i} {m} {n} a {r} h ek ei er s =
+    let id : i ≡ idOf (drop 2 b) = ei ∙ ap idOf (payload 2 b) in
+    let parts : commandOf (getD b 0 0) k i (take (length b - 20) (drop 20 b)) ≡ commandOf (getD b 0 0) (kindOf (getD b 1 0)) (idOf (drop 2 b)) (drop 20 b) = λ j. commandOf (getD b 0 0) (ek j) (id j) (payload 20 b j) in
+    subst (Stepped (requestOf b) m n) (sym er) (as-asked (is-command b h ∙ ap command (sym parts)) s)
+
+-- the sweep of the budget that was read
+pub of-budget : (b : List ℕ) {n : ℕ} → getD b 0 0 ≡ 10 → n ≡ halfAt (take (length b - 2) (drop 2 b)) 0 → requestOf b ≡ sweep n
+of-budget b e f = is-sweep b e ∙ ap sweep (sym (f ∙ ap (λ (l : List ℕ). halfAt l 0) (payload 2 b)))
 
 -- ---- the steps of a list
 

@@ -1,67 +1,37 @@
 -- What carrying out a list of requests does: demand 3 as the contract of running code.
 -- The rules: RULES.md, "Reference model and demand 3".
 -- Assumes nothing.
-use Prim.Native.Nat.{ℕ, min}
-use mathlib.Core.Bool.{cond}
+use Prim.Native.Nat.{ℕ}
 use mathlib.Core.List.{List, [], _∷_, _++_}
 use mathlib.Core.Path.{_≡_}
 use lib.ListN.{length, drop}
-use lib.Dec.{eqb}
 use denote.Ref.{now}
-use Rattle.rules.specs.State.{Limits, State, queues, fresh}
-use Rattle.rules.specs.Queues.{movedNumber, moveAnswer, remaining, mostMoves}
-use Rattle.rules.specs.Commands.{errnoOf}
+use Rattle.rules.specs.State.{Limits, State, fresh}
 use Rattle.mask.specs.declared.Apid.{Apid}
 use Rattle.mask.specs.declared.Apqi.{Apqi}
 use Rattle.layout.specs.Lent.{Lent}
-use Rattle.layout.specs.Carried.{Memory, memory, read, memoryAfter}
+use Rattle.layout.specs.Carried.{Memory, memory, read}
 use Rattle.setup.specs.Fresh.{freshMemory}
-use Rattle.bind.specs.Moves.{moveBytes}
-use Rattle.sweep.specs.Sweeps.{sweepBytes}
-use Rattle.model.specs.Steps.{Step, queueOf, rule, afterAll, answers}
+use Rattle.model.specs.Steps.{Step, afterAll}
 use Rattle.model.specs.Steps as Steps
-use Rattle.model.specs.Sweeps.{sweepSteps}
-use Rattle.calls.specs.Calls.{effect, Call, Chain, Demanded}
-use Rattle.encoding.specs.Encoding.{Request, command, move, sweep, requestOf, decode}
-
--- the steps that a request stands for in a list of demand 3: a sweep stands in it as its moves
-unfoldable pub stepsFor : Request → State → List Step
-stepsFor (command c) s = Steps.command c ∷ []
-stepsFor (move a d) s = Steps.move a d ∷ []
-stepsFor (sweep b) s = sweepSteps b s
+use Rattle.calls.specs.Calls.{Chain, Demanded}
+use Rattle.encoding.specs.Encoding.{Request, requestOf, decode}
+use Rattle.request.specs.Requests.{stepsFor, leaves, answerByte, Stepped}
 
 -- the steps of some requests, one after the other
 unfoldable pub stepsOf : List Request → State → List Step
 stepsOf [] s = []
 stepsOf (x ∷ xs) s = stepsFor x s ++ stepsOf xs (afterAll (stepsFor x s) s)
 
--- the memory after a request, every byte
-unfoldable pub leaves : Request → Memory → Memory
-leaves (command c) m = memoryAfter m (rule c (read m)) (effect c m)
-leaves (move a d) m = memory (m .words) (moveBytes (m .words) (queueOf a d) (m .drivers))
-leaves (sweep b) m = memory (m .words) (sweepBytes (m .words) queues 0 (min b mostMoves) (m .drivers))
-
 -- the memory after some requests
 unfoldable pub leavesAll : List Request → Memory → Memory
 leavesAll [] m = m
 leavesAll (x ∷ xs) m = leavesAll xs (leaves x m)
 
--- a request's answer as a byte: a command's errno value, 0 for no refusal; a move's answer; whether moves remain after a sweep
-unfoldable pub answerByte : Request → State → ℕ
-answerByte (command c) s = errnoOf (rule c s)
-answerByte (move a d) s = movedNumber (moveAnswer (queueOf a d) s)
-answerByte (sweep b) s = cond (eqb (remaining (afterAll (sweepSteps b s) s)) 0) 0 1
-
 -- the answers to some requests
 unfoldable pub answerBytes : List Request → State → List ℕ
 answerBytes [] s = []
 answerBytes (x ∷ xs) s = answerByte x s ∷ answerBytes xs (afterAll (stepsFor x s) s)
-
--- one request, on the memory m, which it leaves as n
-pub record Stepped (x : Request) (m n : Memory) (r : ℕ) : Type 0 where
-  pub answer : r ≡ answerByte x (read m)
-  pub memory : n ≡ leaves x m
-  pub call : (rs : List ℕ) × Call m n (stepsFor x (read m)) rs
 
 -- a chain that comes to the memory m goes on to n, by calls that stand for these steps
 unfoldable pub GoesOn : Memory → Memory → List Step → Type 0

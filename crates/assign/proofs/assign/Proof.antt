@@ -1,33 +1,37 @@
--- `assign` meets its contract: what the text says, by `assign_number`.
+-- `assign` meets its contract: the rule at the place of the number.
 -- Assumes nothing.
-use mathlib.Core.Path.{sym, ap, _∙_}
+use mathlib.Core.Path.{sym, _∙_}
 use denote.Ref.{now}
 use borrow.Author.Needs.{needs}
-use Rattle.number.specs.Text.{outcome}
-use Rattle.rules.specs.Commands.{assign, assignNumber}
-use Rattle.assign.specs.Numbers.{assignedNumber}
-use Rattle.assign.proofs.Laws.{by-number, by-none, exact}
+use Rattle.rules.specs.Commands.{assign, assignAt}
+use Rattle.assign.specs.Numbers.{assigned, assignedAt}
+use Rattle.assign.proofs.Laws.{goes, at-place, no-place, exact}
 use Rattle.assign.proofs.assign.Statement.{statement}
 use Rattle.assign.proofs.assign.Tie as tie
 
-returns : tie.Need-returns
-unfolding assign outcome
-returns c =
+assign-at-requires : tie.Need-assign-at-requires
+assign-at-requires c κs =
     let a = c .before .before .before .before .before .before .before .args in
-    let n = c .before .before .before .n .given in
-    let done = by-number (assignNumber (a .kind) (a .id)) (assignedNumber (a .kind) (a .id)) (now (a .text)) (a .words .now) (n .0 .0) _ _
-    (sym (c .before .before .before .before .before .parse .ensures) ∙ ap outcome (n .1)) (c .assign-number .ensures) in
+    goes (a .kind) (a .id) (now (a .text)) (a .words .now) (sym (c .before .before .slot .given .1) ∙ c .before .before .before .before .locate .ensures) .there
+
+returns : tie.Need-returns
+unfolding assign
+returns c =
+    let a = c .before .before .before .before .before .before .before .before .args in
+    let done =
+    at-place (a .kind) (a .id) (now (a .text)) (a .words .now) (assignAt (a .kind)) (assignedAt (a .kind))
+    (sym (c .before .before .before .slot .given .1) ∙ c .before .before .before .before .before .locate .ensures) (c .assign-at .ensures) in
     record { rule = done; exactly = exact (a .kind) (a .id) (now (a .text)) (a .words .now) done }
 
 returns-2 : tie.Need-returns-2
-unfolding assign outcome
+unfolding assign
 returns-2 c =
-    let a = c .before .before .before .before .args in
-    let done = by-none (assignNumber (a .kind) (a .id)) (assignedNumber (a .kind) (a .id)) (now (a .text)) (a .words .now)
-    (sym (c .before .before .parse .ensures) ∙ ap outcome (c .enum-told .given .1)) in
+    let a = c .before .before .before .before .before .before .args in
+    let done =
+    no-place (a .kind) (a .id) (now (a .text)) (a .words .now) (assignAt (a .kind)) (assigned (a .kind) (a .id) (now (a .text)))
+    (sym (c .before .e .given .1) ∙ c .before .before .before .locate .ensures) in
     record { rule = done; exactly = exact (a .kind) (a .id) (now (a .text)) (a .words .now) done }
 
 pub assign-spec : {M : Type 1} → statement M
 assign-spec =
-    tie.close
-    (tie.spec (λ c κs. search needs) (λ c. search needs) (λ c κs. search needs) (λ c. search needs) returns returns-2)
+    tie.close (tie.spec (λ c κs. search needs) (λ c. search needs) assign-at-requires (λ c. search needs) returns returns-2)

@@ -12,7 +12,8 @@ use Rattle.layout.specs.Layout.{deviceIn, stateIn}
 use Rattle.layout.proofs.Laws.{refused-carried, done-carried}
 use Rattle.product.specs.Meet.{queuesOf}
 use Rattle.assign.specs.Numbers.{assignedAt}
-use Rattle.assign.proofs.Laws.{same-words, assigned-already, new-number, refused-as, done-as, put-changed, read-changed}
+use Rattle.admit.proofs.Laws.{refused-as, done-as}
+use Rattle.assign.proofs.Laws.{same-words, assigned-already, new-number, put-changed, read-changed}
 use Rattle.assign.proofs.assign_at.Statement.{statement}
 use Rattle.assign.proofs.assign_at.Tie as tie
 

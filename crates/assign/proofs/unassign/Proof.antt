@@ -1,31 +1,33 @@
--- `unassign` meets its contract: what the text says, by `unassign_number`.
+-- `unassign` meets its contract: the rule at the place of the number.
 -- Assumes nothing.
-use mathlib.Core.Path.{sym, ap, _∙_}
+use mathlib.Core.Path.{sym, _∙_}
 use denote.Ref.{now}
 use borrow.Author.Needs.{needs}
-use Rattle.number.specs.Text.{outcome}
-use Rattle.rules.specs.Commands.{unassign, unassignNumber}
-use Rattle.assign.specs.Numbers.{unassignedNumber}
-use Rattle.assign.proofs.Laws.{by-number, by-none}
+use Rattle.rules.specs.Commands.{unassign, unassignAt}
+use Rattle.assign.specs.Numbers.{unassigned, unassignedAt}
+use Rattle.assign.proofs.Laws.{goes, at-place, no-place}
 use Rattle.assign.proofs.unassign.Statement.{statement}
 use Rattle.assign.proofs.unassign.Tie as tie
 
-returns : tie.Need-returns
-unfolding unassign outcome
-returns c =
+unassign-at-requires : tie.Need-unassign-at-requires
+unassign-at-requires c κs =
     let a = c .before .before .before .before .before .before .before .args in
-    let n = c .before .before .before .n .given in
-    by-number (unassignNumber (a .kind) (a .id)) (unassignedNumber (a .kind) (a .id)) (now (a .text)) (a .words .now) (n .0 .0) _ _
-    (sym (c .before .before .before .before .before .parse .ensures) ∙ ap outcome (n .1)) (c .unassign-number .ensures)
+    goes (a .kind) (a .id) (now (a .text)) (a .words .now) (sym (c .before .before .slot .given .1) ∙ c .before .before .before .before .locate .ensures) .there
+
+returns : tie.Need-returns
+unfolding unassign
+returns c =
+    let a = c .before .before .before .before .before .before .before .before .args in
+    at-place (a .kind) (a .id) (now (a .text)) (a .words .now) (unassignAt (a .kind)) (unassignedAt (a .kind))
+    (sym (c .before .before .before .slot .given .1) ∙ c .before .before .before .before .before .locate .ensures) (c .unassign-at .ensures)
 
 returns-2 : tie.Need-returns-2
-unfolding unassign outcome
+unfolding unassign
 returns-2 c =
-    let a = c .before .before .before .before .args in
-    by-none (unassignNumber (a .kind) (a .id)) (unassignedNumber (a .kind) (a .id)) (now (a .text)) (a .words .now)
-    (sym (c .before .before .parse .ensures) ∙ ap outcome (c .enum-told .given .1))
+    let a = c .before .before .before .before .before .before .args in
+    no-place (a .kind) (a .id) (now (a .text)) (a .words .now) (unassignAt (a .kind)) (unassigned (a .kind) (a .id) (now (a .text)))
+    (sym (c .before .e .given .1) ∙ c .before .before .before .locate .ensures)
 
 pub unassign-spec : {M : Type 1} → statement M
 unassign-spec =
-    tie.close
-    (tie.spec (λ c κs. search needs) (λ c. search needs) (λ c κs. search needs) (λ c. search needs) returns returns-2)
+    tie.close (tie.spec (λ c κs. search needs) (λ c. search needs) unassign-at-requires (λ c. search needs) returns returns-2)

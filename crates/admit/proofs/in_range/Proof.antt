@@ -3,8 +3,8 @@
 use mathlib.Core.Path.{ap}
 use lib.Dec.{leb}
 use borrow.Author.Needs.{needs}
-use Rattle.assign.proofs.in_range.Statement.{statement}
-use Rattle.assign.proofs.in_range.Tie as tie
+use Rattle.admit.proofs.in_range.Statement.{statement}
+use Rattle.admit.proofs.in_range.Tie as tie
 
 returns : tie.Need-returns
 returns c = ap (leb (c .before .args .number)) (c .limit .ensures)

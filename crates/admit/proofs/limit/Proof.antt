@@ -5,8 +5,8 @@ use borrow.Author.Needs.{needs}
 use Rattle.rules.specs.declared.Kind.{Kind}
 use Rattle.rules.specs.Commands.{limitOf}
 use Rattle.layout.specs.Layout.{limitsIn}
-use Rattle.assign.proofs.limit.Statement.{statement}
-use Rattle.assign.proofs.limit.Tie as tie
+use Rattle.admit.proofs.limit.Statement.{statement}
+use Rattle.admit.proofs.limit.Tie as tie
 
 returns : tie.Need-returns
 unfolding limitOf

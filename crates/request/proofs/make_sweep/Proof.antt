@@ -5,9 +5,9 @@ use mathlib.Core.Bool.{Bool, cond}
 use mathlib.Core.Path.{sym, ap}
 use denote.Ref.{now}
 use borrow.Author.Needs.{needs}
-use Rattle.run.proofs.Laws.{swept}
-use Rattle.run.proofs.make_sweep.Statement.{statement}
-use Rattle.run.proofs.make_sweep.Tie as tie
+use Rattle.request.proofs.Laws.{swept}
+use Rattle.request.proofs.make_sweep.Statement.{statement}
+use Rattle.request.proofs.make_sweep.Tie as tie
 
 returns : tie.Need-returns
 returns c =

@@ -3,9 +3,9 @@
 use native.Mathlib.Omega.{arith}
 use denote.Ref.{now}
 use borrow.Author.Needs.{needs}
-use Rattle.run.proofs.Laws.{moved}
-use Rattle.run.proofs.make_move.Statement.{statement}
-use Rattle.run.proofs.make_move.Tie as tie
+use Rattle.request.proofs.Laws.{moved}
+use Rattle.request.proofs.make_move.Statement.{statement}
+use Rattle.request.proofs.make_move.Tie as tie
 
 returns : tie.Need-returns
 returns c =
