@@ -2,7 +2,6 @@
 // with a model in Python that is written from the rules (docs/RULES.md) and shares no code with the library.
 use guest::Shown;
 use layout::Drivers;
-use layout::QUEUES;
 use layout::WORDS;
 use layout::Words;
 use listing::Listed;
@@ -16,6 +15,7 @@ use rules::Id;
 use rules::Kind;
 use rules::Matrix;
 use rules::Moved;
+use rules::QUEUES;
 
 // A row is two letters, for a group of functions and for one of them, and the words that are printed before its answer.
 // The arguments are among these words. A row of the letters ## only prints its words. A semicolon ends a row.

@@ -1,11 +1,15 @@
 // The three guests of the kernel's document on vfio-ap, from a bare record to running; then the accident: a rehearsal guest asks for
 // the live queue, and is refused by name.
+use layout::Drivers;
+use layout::WORDS;
+use layout::Words;
 use mask::Mask;
 use rules::Answer;
 use rules::Configuration;
 use rules::Id;
 use rules::Kind;
 use rules::Matrix;
+use rules::QUEUES;
 use sweep::Swept;
 
 fn main() {
@@ -78,7 +82,7 @@ fn host(words: &mut Words, drivers: &mut Drivers, what: u8, text: &[u8]) -> Answ
         b'f' => setup::fresh(words, drivers, 255, 255),
         b'p' => host::set_apmask(words, text),
         b'q' => host::set_aqmask(words, text),
-        _ => host::configure(words, drivers, partition()),
+        _ => configure::configure(words, drivers, partition()),
     }
 }
 

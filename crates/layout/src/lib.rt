@@ -3,6 +3,7 @@
 //
 // Rests on errno, mask and rules.
 use rules::Kind;
+use rules::QUEUES;
 ghost use mathlib.Core.Path.{_≡_};
 ghost use Rattle.mask.specs.Bits.{Small, Sized};
 ghost use Rattle.rules.specs.State.{queues};
@@ -32,11 +33,9 @@ pub const SLOT_WORDS: usize = 16;
 // The number of words of a record.
 pub const WORDS: usize = FIRST_SLOT + SLOTS * SLOT_WORDS;
 
-// The number of queues, each of which has a driver byte.
-pub const QUEUES: usize = 65536;
-
 pub type Words = [u64; WORDS];
 
+// A byte for the driver of each queue.
 pub type Drivers = [u8; QUEUES];
 
 // A reference to an array says how long it is only where it becomes a slice. These two do nothing but state that.

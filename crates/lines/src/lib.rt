@@ -4,6 +4,7 @@
 use mask::Apid;
 use mask::Apqi;
 use product::Product;
+use rules::QUEUES;
 ghost use Prim.Native.Nat.{_+_, _≤_, _<_};
 ghost use mathlib.Core.Path.{_≡_};
 ghost use lib.ListN.{length};
@@ -14,8 +15,6 @@ ghost use Rattle.lines.specs.Written.{Written};
 
 // The bytes of a line.
 pub const LINE: usize = 8;
-
-const QUEUES: usize = 65536;
 
 // How many bytes were written, and the next place.
 pub struct Filled {

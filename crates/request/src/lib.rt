@@ -32,7 +32,7 @@ pub fn command(
         5 => assign::unassign(words, kind, id, text),
         6 => host::set_apmask(words, text),
         7 => host::set_aqmask(words, text),
-        _ => host::configure(words, drivers, fields::configuration_of(text)),
+        _ => configure::configure(words, drivers, fields::configuration_of(text)),
     }
 }
 

@@ -7,6 +7,9 @@ ghost use mathlib.Core.Path.{_≡_};
 ghost use Rattle.rules.specs.Queues.{movedNumber};
 ghost use Rattle.rules.specs.Commands.{answered};
 
+// The number of queues: an adapter and a domain each.
+pub const QUEUES: usize = 65536;
+
 // Who drives a queue: nobody, the host's own driver, or the driver that passes it through to guests.
 pub enum Driver {
     Unbound,

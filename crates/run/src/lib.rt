@@ -1,6 +1,8 @@
 // Carries out a list of commands, moves and sweeps, with demand 3 as its contract.
 //
 // Rests on errno, mask, rules, record, setup, model, fields, encoding, calls and request.
+use layout::Drivers;
+use layout::Words;
 use mask::Apid;
 use mask::Apqi;
 ghost use Prim.Native.Nat.{_≤_};

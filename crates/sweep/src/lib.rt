@@ -68,7 +68,7 @@ pub fn remaining(words: &Words, drivers: &Drivers) -> u32
     ensures { λ r. ⌜ Remains (words .entry) (drivers .entry) r ⌝ }
 {
     let mut sum: u32 = 0;
-    for queue in 0..layout::QUEUES {
+    for queue in 0..rules::QUEUES {
         let need = need_at(words, drivers, queue);
         sum += need.due;
     }
@@ -87,7 +87,7 @@ pub fn sweep(words: &Words, drivers: &mut Drivers, budget: u32) -> Swept
     };
     let mut left = most;
     let mut queue: usize = 0;
-    while queue < layout::QUEUES {
+    while queue < rules::QUEUES {
         let need = need_at(words, drivers, queue);
         let n = need.due;
         let t = need.target;
