@@ -13,6 +13,8 @@ use mathlib.Core.Bool.{Bool, false, cond}
 use mathlib.Core.List.{List, [], _∷_}
 use lib.ListN.{length, getD, take, drop}
 use lib.Dec.{eqb, leb}
+use Rattle.rules.specs.declared.Id.{Id}
+use Rattle.rules.specs.declared.Kind.{Kind}
 use Rattle.model.specs.Steps.{Command, create, remove, openIt, closeIt, assign, unassign, setApmask, setAqmask, configure}
 use Rattle.fields.specs.Fields.{halfAt, idOf, kindOf, configurationOf}
 
@@ -26,19 +28,23 @@ pub data Request : Type 0 where
 unfoldable pub sizeOf : List ℕ → ℕ
 sizeOf b = 20 + (getD b 18 0 * 256 + getD b 19 0)
 
+-- the command of an operation: any but the first eight is a configuration
+unfoldable pub commandOf : ℕ → Kind → Id → List ℕ → Command
+commandOf op k i text =
+    cond (eqb op 0) (create i)
+    (cond (eqb op 1) (remove i)
+    (cond (eqb op 2) (openIt i)
+    (cond (eqb op 3) (closeIt i)
+    (cond (eqb op 4) (assign k i text)
+    (cond (eqb op 5) (unassign k i text)
+    (cond (eqb op 6) (setApmask text)
+    (cond (eqb op 7) (setAqmask text) (configure (configurationOf text)))))))))
+
 -- the request that a header and a payload stand for
 unfoldable pub requestOf : List ℕ → Request
 requestOf b =
-    cond (eqb (getD b 0 0) 0) (command (create (idOf (drop 2 b))))
-    (cond (eqb (getD b 0 0) 1) (command (remove (idOf (drop 2 b))))
-    (cond (eqb (getD b 0 0) 2) (command (openIt (idOf (drop 2 b))))
-    (cond (eqb (getD b 0 0) 3) (command (closeIt (idOf (drop 2 b))))
-    (cond (eqb (getD b 0 0) 4) (command (assign (kindOf (getD b 1 0)) (idOf (drop 2 b)) (drop 20 b)))
-    (cond (eqb (getD b 0 0) 5) (command (unassign (kindOf (getD b 1 0)) (idOf (drop 2 b)) (drop 20 b)))
-    (cond (eqb (getD b 0 0) 6) (command (setApmask (drop 20 b)))
-    (cond (eqb (getD b 0 0) 7) (command (setAqmask (drop 20 b)))
-    (cond (eqb (getD b 0 0) 8) (command (configure (configurationOf (drop 20 b))))
-    (cond (eqb (getD b 0 0) 10) (sweep (halfAt (drop 2 b) 0)) (move (getD b 2 0) (getD b 3 0)))))))))))
+    cond (leb (getD b 0 0) 8) (command (commandOf (getD b 0 0) (kindOf (getD b 1 0)) (idOf (drop 2 b)) (drop 20 b)))
+    (cond (eqb (getD b 0 0) 10) (sweep (halfAt (drop 2 b) 0)) (move (getD b 2 0) (getD b 3 0)))
 
 -- whether a whole step is left
 unfoldable pub whole : List ℕ → Bool

@@ -1,13 +1,13 @@
 -- One request that is carried out.
 -- Assumes nothing.
-use Prim.Native.Nat.{ℕ, zero, suc, _+_, _*_, _%_, _≤_, _<_}
+use Prim.Native.Nat.{ℕ, _+_, _*_, _%_, _≤_, _<_}
 use native.Mathlib.Omega.{arith}
 use mathlib.Core.Bool.{Bool, true, false, cond, not}
 use mathlib.Core.List.{List, [], _∷_}
 use mathlib.Core.Path.{_≡_, refl, sym, ap, subst, _∙_}
 use lib.Dec.{eqb}
 use lib.ListN.{getD, drop}
-use borrow.Author.Tests.{ne-eqb}
+use borrow.Author.Tests.{ne-eqb, le-leb, lt-leb}
 use Rattle.rules.specs.declared.Answer.{Answer}
 use Rattle.rules.specs.declared.Id.{Id}
 use Rattle.rules.specs.declared.Kind.{Kind}
@@ -26,8 +26,8 @@ use Rattle.model.specs.Sweeps.{sweepSteps}
 use Rattle.model.proofs.Sweeping.{sweep-steps}
 use Rattle.calls.specs.Calls.{effect, Call, moves, sweeps}
 use Rattle.fields.specs.Fields.{halfAt, idOf, kindOf, configurationOf}
-use Rattle.encoding.specs.Encoding.{Request, command, move, sweep, requestOf}
-use Rattle.request.specs.Requests.{stepsFor, leaves, answerByte, Stepped, commandOf}
+use Rattle.encoding.specs.Encoding.{Request, command, move, sweep, commandOf, requestOf}
+use Rattle.request.specs.Requests.{stepsFor, leaves, answerByte, Stepped}
 
 pub as-asked : {x y : Request} {m n : Memory} {r : ℕ} → x ≡ y → Stepped y m n r → Stepped x m n r
 as-asked {x} {y} {m} {n} {r} e = subst (λ (z : Request). Stepped z m n r) (sym e)
@@ -81,21 +81,8 @@ swept b ws qs rs r w f c =
 -- ---- the request of an operation: a command, a sweep, or a move
 
 pub is-command : (b : List ℕ) → getD b 0 0 ≤ 8 → requestOf b ≡ command (commandOf (getD b 0 0) (kindOf (getD b 1 0)) (idOf (drop 2 b)) (drop 20 b))
-unfolding requestOf commandOf
-is-command b h = go (getD b 0 0) refl h
-  where
-    go : (n : ℕ) → getD b 0 0 ≡ n → n ≤ 8
-        → requestOf b ≡ command (commandOf (getD b 0 0) (kindOf (getD b 1 0)) (idOf (drop 2 b)) (drop 20 b))
-    go zero e h = rw e
-    go (suc zero) e h = rw e
-    go (suc (suc zero)) e h = rw e
-    go (suc (suc (suc zero))) e h = rw e
-    go (suc (suc (suc (suc zero)))) e h = rw e
-    go (suc (suc (suc (suc (suc zero))))) e h = rw e
-    go (suc (suc (suc (suc (suc (suc zero)))))) e h = rw e
-    go (suc (suc (suc (suc (suc (suc (suc zero))))))) e h = rw e
-    go (suc (suc (suc (suc (suc (suc (suc (suc zero)))))))) e h = rw e
-    go (suc (suc (suc (suc (suc (suc (suc (suc (suc n))))))))) e h = absurd (omega arith)
+unfolding requestOf
+is-command b h = rw (le-leb (getD b 0 0) 8 h)
 
 pub is-sweep : (b : List ℕ) → getD b 0 0 ≡ 10 → requestOf b ≡ sweep (halfAt (drop 2 b) 0)
 unfolding requestOf
@@ -103,7 +90,4 @@ is-sweep b e = rw e
 
 pub is-move : (b : List ℕ) → 8 < getD b 0 0 → (getD b 0 0 ≡ 10 → ⊥) → requestOf b ≡ move (getD b 2 0) (getD b 3 0)
 unfolding requestOf
-is-move b h t =
-    let n = getD b 0 0 in
-    let other : (k : ℕ) → k ≤ 8 → eqb n k ≡ false = λ k l. ne-eqb n k (λ e. omega arith) in
-    rw (other 0 (omega arith), other 1 (omega arith), other 2 (omega arith), other 3 (omega arith), other 4 (omega arith), other 5 (omega arith), other 6 (omega arith), other 7 (omega arith), other 8 (omega arith), ne-eqb n 10 t)
+is-move b h t = rw (lt-leb (getD b 0 0) 8 h, ne-eqb (getD b 0 0) 10 t)

@@ -17,12 +17,11 @@ use Rattle.layout.specs.Lent.{Lent}
 use Rattle.layout.specs.Carried.{Memory, memory, read, memoryAfter}
 use Rattle.bind.specs.Moves.{moveBytes}
 use Rattle.sweep.specs.Sweeps.{sweepBytes}
-use Rattle.model.specs.Steps.{Command, create, remove, openIt, closeIt, assign, unassign, setApmask, setAqmask, configure, Step, queueOf, rule, afterAll}
+use Rattle.model.specs.Steps.{Step, queueOf, rule, afterAll}
 use Rattle.model.specs.Steps as Steps
 use Rattle.model.specs.Sweeps.{sweepSteps}
 use Rattle.calls.specs.Calls.{effect, Call}
-use Rattle.fields.specs.Fields.{configurationOf}
-use Rattle.encoding.specs.Encoding.{Request, command, move, sweep}
+use Rattle.encoding.specs.Encoding.{Request, command, move, sweep, commandOf}
 
 -- the steps that a request stands for in a list of demand 3: a sweep stands in it as its moves
 unfoldable pub stepsFor : Request → State → List Step
@@ -47,18 +46,6 @@ pub record Stepped (x : Request) (m n : Memory) (r : ℕ) : Type 0 where
   pub answer : r ≡ answerByte x (read m)
   pub memory : n ≡ leaves x m
   pub call : (rs : List ℕ) × Call m n (stepsFor x (read m)) rs
-
--- the command of an operation: any but the first eight is a configuration
-unfoldable pub commandOf : ℕ → Kind → Id → List ℕ → Command
-commandOf op k i text =
-    cond (eqb op 0) (create i)
-    (cond (eqb op 1) (remove i)
-    (cond (eqb op 2) (openIt i)
-    (cond (eqb op 3) (closeIt i)
-    (cond (eqb op 4) (assign k i text)
-    (cond (eqb op 5) (unassign k i text)
-    (cond (eqb op 6) (setApmask text)
-    (cond (eqb op 7) (setAqmask text) (configure (configurationOf text)))))))))
 
 -- the command of an operation is carried out, of lent memory at entry and at exit
 abbrev pub Obeyed : ℕ → Kind → Id → Lent → Lent → Lent → Lent → Lent → Answer → Type 0

@@ -22,11 +22,11 @@ use Rattle.model.specs.Steps as Steps
 use Rattle.calls.specs.Calls.{Call, Chain, begins, goesOn}
 use Rattle.calls.proofs.Chains.{called, reached, demanded}
 use Rattle.fields.specs.Fields.{halfAt, idOf, kindOf}
-use Rattle.encoding.specs.Encoding.{Request, command, sweep, sizeOf, requestOf, whole, decode}
+use Rattle.encoding.specs.Encoding.{Request, command, sweep, sizeOf, commandOf, requestOf, whole, decode}
 use Rattle.rules.specs.declared.Id.{Id}
 use Rattle.rules.specs.declared.Kind.{Kind}
 use Rattle.request.proofs.Laws.{as-asked, is-command, is-sweep}
-use Rattle.request.specs.Requests.{stepsFor, Stepped, commandOf}
+use Rattle.request.specs.Requests.{stepsFor, Stepped}
 use Rattle.run.specs.Running.{stepsOf, leavesAll, answerBytes, GoesOn, CarriedOut, Run}
 
 -- ---- one request

@@ -5,7 +5,7 @@ use denote.Ref.{now}
 use borrow.Author.Needs.{needs}
 use Rattle.model.specs.Steps.{configure, rule}
 use Rattle.calls.specs.Calls.{effect, creates, removes, opens, closes, assigns, unassigns, setsApmask, setsAqmask, configures}
-use Rattle.request.specs.Requests.{commandOf}
+use Rattle.encoding.specs.Encoding.{commandOf}
 use Rattle.request.proofs.Laws.{obeyed, at-op, is-configure}
 use Rattle.request.proofs.command.Statement.{statement}
 use Rattle.request.proofs.command.Tie as tie
