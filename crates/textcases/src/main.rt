@@ -129,31 +129,30 @@ fn bytes(how: u8, t: &[u8]) {
 }
 
 fn changed_byte(how: u8, t: &[u8], place: usize, b: usize) {
-    let n = t.len();
-    if n < 25 {
-        let s = changed(t, place, b);
-        if how == b'N' {
-            number_line(number::parse(&s[0..n]), place, b);
-        } else {
-            mask_line(masktext::parse(&s[0..n], Mask::full()), place, b);
-        }
+    let s = changed(t, place, b);
+    if how == b'N' {
+        number_line(s, t.len(), place, b);
+    } else {
+        mask_line(s, t.len(), place, b);
     }
 }
 
-fn number_line(n: Number, place: usize, b: usize) {
-    match n {
-        Number::Value(v) => {
+fn number_line(s: [u8; 24], n: usize, place: usize, b: usize) {
+    if n < 25 {
+        if let Number::Value(v) = number::parse(&s[0..n]) {
             at(place, b);
             print::number(b"", v as u64);
         }
-        Number::Bad => {}
     }
 }
 
-fn mask_line(r: MaskRead, place: usize, b: usize) {
-    if r.good {
-        at(place, b);
-        mask_outcome(r);
+fn mask_line(s: [u8; 24], n: usize, place: usize, b: usize) {
+    if n < 25 {
+        let r = masktext::parse(&s[0..n], Mask::full());
+        if r.good {
+            at(place, b);
+            mask_outcome(r);
+        }
     }
 }
 
