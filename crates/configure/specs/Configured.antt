@@ -5,10 +5,11 @@ use Prim.Native.Nat.{ℕ, zero, suc, _+_, _*_}
 use mathlib.Core.Bool.{cond, not, _&&_}
 use mathlib.Core.List.{List}
 use lib.ListN.{set}
-use Rattle.mask.specs.Bits.{Bits}
+use Rattle.mask.specs.declared.Mask.{Mask}
+use Rattle.mask.specs.Bits.{Bits, bits}
 use Rattle.rules.specs.declared.Answer.{Answer}
 use Rattle.rules.specs.declared.Configuration.{Configuration}
-use Rattle.rules.specs.State.{queues}
+use Rattle.rules.specs.State.{queues, apqi}
 use Rattle.rules.specs.Commands.{configure}
 use Rattle.layout.specs.Layout.{putConfig, unbind, takenAway}
 use Rattle.layout.specs.Lent.{Lent}
@@ -19,6 +20,14 @@ use Rattle.product.specs.Meet.{queuesOf}
 -- the queues that were in one product and are not in another
 abbrev pub gone : Product → Product → Bits
 gone was is q = queuesOf was q && not (queuesOf is q)
+
+-- the domains that a product pairs with adapter a
+unfoldable pub domainsOf : Product → ℕ → Bits
+domainsOf p a d = bits (p .adapters) a && bits (p .domains) d
+
+-- the queues whose domain was in one mask and is not in another
+abbrev pub dropped : Mask → Mask → Bits
+dropped was is q = bits was (apqi q) && not (bits is (apqi q))
 
 -- the driver bytes with that of queue q cleared, if it is gone
 abbrev pub unbindOne : List ℕ → Bits → ℕ → List ℕ

@@ -1,21 +1,23 @@
 // The partition's configuration: setting it, and unbinding the queues that it takes away.
 //
-// Rests on errno, mask, product, rules and record.
+// Rests on errno, mask, rules, product, layout, record and store.
 use errno::Errno;
 use layout::Drivers;
 use layout::Words;
 use mask::Apid;
 use mask::Apqi;
+use mask::Mask;
 use product::Product;
 use rules::Answer;
 use rules::Configuration;
 use rules::Driver;
 ghost use mathlib.Core.Path.{_≡_};
+ghost use Rattle.mask.specs.Bits.{bits};
 ghost use Rattle.rules.specs.State.{apqn, queues};
 ghost use Rattle.rules.specs.Commands.{beyondLimits};
 ghost use Rattle.layout.specs.Layout.{unbind};
 ghost use Rattle.layout.specs.Lent.{limits};
-ghost use Rattle.configure.specs.Configured.{gone, unbindOne, unbindRow, Configures};
+ghost use Rattle.configure.specs.Configured.{gone, domainsOf, dropped, unbindOne, unbindRow, Configures};
 
 // Replaces the configuration. A queue that is no longer configured is unbound at once.
 pub fn configure(words: &mut Words, drivers: &mut Drivers, configuration: Configuration) -> Answer
@@ -80,21 +82,40 @@ fn unbind_row(drivers: &mut Drivers, was: Product, is: Product, adapter: Apid)
     if !adapters.has_adapter(adapter) {
         return;
     }
+    let domains = was.domains;
+    unbind_domains(drivers, adapter, domains, domains_of(is, adapter));
+}
+
+// The domains that a product pairs with an adapter.
+fn domains_of(product: Product, adapter: Apid) -> Mask
+    ensures { λ r. ⌜ bits r ≡ domainsOf product (adapter .0) ⌝ }
+{
+    let adapters = product.adapters;
+    if !adapters.has_adapter(adapter) {
+        return Mask::empty();
+    }
+    product.domains
+}
+
+// Unbinds the queues of an adapter whose domain was in one mask and is not in another.
+fn unbind_domains(drivers: &mut Drivers, adapter: Apid, was: Mask, is: Mask)
+    ensures { λ r. ⌜ now (drivers .exit) ≡ unbindRow (now (drivers .entry)) (dropped was is) (adapter .0) 256 ⌝ }
+{
     let mut domain = 0usize;
     while domain < 256 {
-        unbind_gone(drivers, was, is, adapter, Apqi(domain as u8));
+        unbind_dropped(drivers, adapter, was, is, Apqi(domain as u8));
         domain += 1;
     }
 }
 
-// Unbinds one queue, if it was configured and is not any more.
-fn unbind_gone(drivers: &mut Drivers, was: Product, is: Product, adapter: Apid, domain: Apqi)
-    ensures { λ r. ⌜ now (drivers .exit) ≡ unbindOne (now (drivers .entry)) (gone was is) (apqn adapter domain) ⌝ }
+// Unbinds one of them.
+fn unbind_dropped(drivers: &mut Drivers, adapter: Apid, was: Mask, is: Mask, domain: Apqi)
+    ensures { λ r. ⌜ now (drivers .exit) ≡ unbindOne (now (drivers .entry)) (dropped was is) (apqn adapter domain) ⌝ }
 {
-    if !was.has(adapter, domain) {
+    if !was.has_domain(domain) {
         return;
     }
-    if is.has(adapter, domain) {
+    if is.has_domain(domain) {
         return;
     }
     store::put_driver(drivers, adapter, domain, Driver::Unbound);

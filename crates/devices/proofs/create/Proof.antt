@@ -6,8 +6,8 @@ use mathlib.Core.Bool.{true}
 use mathlib.Core.Path.{refl, sym, ap, _∙_}
 use borrow.Author.Needs.{needs}
 use Rattle.errno.specs.declared.Errno.the-variants.{Eexist, Enospc}
-use Rattle.rules.specs.Commands.{freeSlot, create, withDevice, newDevice}
-use Rattle.layout.specs.Layout.{deviceIn, stateIn, putDevice}
+use Rattle.rules.specs.Commands.{create, withDevice, newDevice}
+use Rattle.layout.specs.Layout.{stateIn, putDevice}
 use Rattle.layout.proofs.Laws.{refused-carried, done-carried, read-new}
 use Rattle.devices.specs.Effects.{created}
 use Rattle.devices.proofs.Laws.{create-known, create-full, create-new}
