@@ -1,6 +1,6 @@
 // Whether a number can be assigned to a device: its range, and the queues that it adds. Nothing is changed.
 //
-// Rests on errno, mask, product, rules, record and lookup.
+// Rests on errno, mask, rules, product, layout, record and lookup.
 use errno::Errno;
 use layout::Words;
 use mask::Mask;

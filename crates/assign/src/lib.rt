@@ -1,6 +1,6 @@
 // Assigning adapters, domains and control domains to a device, and taking them away.
 //
-// Rests on errno, mask, number, product, rules, record, lookup and admit.
+// Rests on errno, mask, number, rules, product, layout, record, store, lookup and admit.
 use errno::Errno;
 use layout::SLOTS;
 use layout::Words;

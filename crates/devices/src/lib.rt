@@ -1,6 +1,6 @@
 // The life of a mediated device: create, remove, open, close.
 //
-// Rests on errno, rules, record and lookup.
+// Rests on errno, rules, layout, record, store and lookup.
 use errno::Errno;
 use layout::SLOTS;
 use layout::Words;

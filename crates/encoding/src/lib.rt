@@ -1,6 +1,6 @@
 // A list of commands, moves and sweeps as bytes: where one step ends.
 //
-// Rests on model and fields.
+// Rests on rules, fields and model.
 ghost use mathlib.Core.Path.{_≡_};
 ghost use mathlib.Core.Bool.{cond};
 ghost use lib.ListN.{drop};

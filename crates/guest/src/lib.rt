@@ -1,6 +1,6 @@
 // What a guest gets: a device's masks, and whether a queue is usable now.
 //
-// Rests on errno, mask, rules, record, product and lookup.
+// Rests on errno, mask, rules, product, layout, record and lookup.
 use errno::Errno;
 use layout::Drivers;
 use layout::SLOTS;

@@ -1,6 +1,6 @@
 // The host's masks: apmask and aqmask.
 //
-// Rests on errno, mask, masktext, product, rules, record and lookup.
+// Rests on errno, mask, masktext, rules, product, layout, record, store and lookup.
 use errno::Errno;
 use layout::SLOTS;
 use layout::Words;

@@ -1,6 +1,6 @@
 // Lists a device's matrix as text, part by part.
 //
-// Rests on errno, mask, rules, record, product, lookup, guest and lines.
+// Rests on errno, mask, rules, product, lines, layout, lookup and guest.
 use errno::Errno;
 use layout::Drivers;
 use layout::SLOTS;

@@ -1,6 +1,6 @@
 // Looking through the devices of a record: the slot of an id, a free slot, and whether queues are assigned.
 //
-// Rests on errno, mask, product, rules and record.
+// Rests on errno, mask, rules, product, layout and record.
 use layout::SLOTS;
 use layout::Words;
 use product::Product;

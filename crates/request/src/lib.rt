@@ -1,6 +1,6 @@
 // Carries out one request, by the function that a caller would call.
 //
-// Rests on mask, rules, record, bind, devices, assign, host, model, fields, encoding and calls.
+// Rests on mask, rules, fields, layout, bind, sweep, devices, assign, host, configure, model, calls and encoding.
 use layout::Drivers;
 use layout::Words;
 use mask::Apid;

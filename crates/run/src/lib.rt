@@ -1,6 +1,6 @@
 // Carries out a list of commands, moves and sweeps, with demand 3 as its contract.
 //
-// Rests on errno, mask, rules, record, setup, model, fields, encoding, calls and request.
+// Rests on errno, mask, rules, fields, layout, setup, model, calls, encoding and request.
 use layout::Drivers;
 use layout::Words;
 use mask::Apid;
