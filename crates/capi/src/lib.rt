@@ -1,15 +1,15 @@
 // The C interface: include/zokormendu.h has the declarations. Each function takes its arguments apart and calls the
 // library's function of the same name.
 //
-// Rests on mask, fields, rules, layout, shown and the crates whose functions it exports.
+// Rests on mask, fields, rules, layout, names, shown and the crates whose functions it exports.
 use fields::CONFIGURATION_BYTES;
 use layout::Drivers;
 use layout::Words;
 use mask::Apid;
 use mask::Apqi;
+use names::NAME_BYTES;
 use rules::Id;
 use shown::MASKS_BYTES;
-use shown::NAME_BYTES;
 ghost use mathlib.Core.Path.{_≡_};
 ghost use Rattle.fields.specs.Fields.{kindOf, configurationOf};
 ghost use Rattle.rules.specs.Commands.{create, remove, openDevice, closeDevice, setApmask, setAqmask};
@@ -25,7 +25,8 @@ ghost use Rattle.sweep.specs.Sweeps.{Sweeps, Remains};
 ghost use Rattle.guest.specs.Masks.{Shows, usableWith};
 ghost use Rattle.listing.specs.Listed.{Listing};
 ghost use Rattle.capi.specs.Numbered.{Numbered, NumberedMove, idWith, queueWith};
-ghost use Rattle.shown.specs.Shown.{bit, matrixOf, SweepShown, MasksShown, ListShown, NameShown};
+ghost use Rattle.names.specs.Names.{NameShown};
+ghost use Rattle.shown.specs.Shown.{bit, matrixOf, SweepShown, MasksShown, ListShown};
 
 // Makes the lent memory a fresh record.
 #[no_mangle]
@@ -221,5 +222,5 @@ pub extern "C" fn zk_list(
 pub extern "C" fn zk_errno_name(value: u8, out: &mut [u8; NAME_BYTES]) -> usize
     ensures { λ r. ⌜ NameShown value (out .entry) (out .exit) r ⌝ }
 {
-    shown::errno_name(value, out)
+    names::errno_name(value, out)
 }

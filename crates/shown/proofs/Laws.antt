@@ -1,4 +1,4 @@
--- Laws of cases by their values, of what a refused call leaves, and of masks that are put one after the other.
+-- What a refused call leaves; masks that are put one after the other.
 -- Assumes nothing.
 use Prim.Native.Nat.{ℕ, _+_}
 use native.Mathlib.Omega.{arith}
@@ -9,52 +9,9 @@ use lib.ListN.{length, drop, length-append}
 use lib.Dec.{eqb}
 use lib.Seq.{paste, take-at, take-all, drop-drop, drop-length, drop-append-add}
 use borrow.Author.Tests.{eq-eqb, ne-eqb}
-use Rattle.errno.specs.declared.Errno.{Errno}
-use Rattle.errno.specs.declared.Errno.the-variants.{Enoent, Ebusy, Eexist, Enodev, Einval, Enospc, Eaddrinuse, Eaddrnotavail}
-use Rattle.errno.specs.Errno.{numberOf}
 use Rattle.mask.specs.Bits.{Bits}
 use Rattle.mask.proofs.Laws.{numbers-words}
-use Rattle.shown.specs.Shown.{maskBytes, Nameless}
-
--- the case with a number
-caseWith : ℕ → Errno
-caseWith n =
-    cond (eqb n 2) Enoent
-    (cond (eqb n 16) Ebusy
-    (cond (eqb n 17) Eexist
-    (cond (eqb n 19) Enodev
-    (cond (eqb n 22) Einval
-    (cond (eqb n 28) Enospc
-    (cond (eqb n 98) Eaddrinuse
-    Eaddrnotavail))))))
-
-own-case : (e : Errno) → caseWith (numberOf e) ≡ e
-unfolding caseWith numberOf
-own-case Enoent = refl
-own-case Ebusy = refl
-own-case Eexist = refl
-own-case Enodev = refl
-own-case Einval = refl
-own-case Enospc = refl
-own-case Eaddrinuse = refl
-own-case Eaddrnotavail = refl
-
--- one case has a number
-pub one-case : {n : ℕ} (e f : Errno) → n ≡ numberOf e → n ≡ numberOf f → e ≡ f
-one-case e f p q = sym (own-case e) ∙ ap caseWith (sym p ∙ q) ∙ own-case f
-
--- no case has a number that is none of the eight
-pub nameless : (n : ℕ) → (n ≡ 2 → ⊥) → (n ≡ 16 → ⊥) → (n ≡ 17 → ⊥) → (n ≡ 19 → ⊥) → (n ≡ 22 → ⊥) → (n ≡ 28 → ⊥) → (n ≡ 98 → ⊥)
-    → (n ≡ 99 → ⊥) → Nameless n
-unfolding numberOf
-nameless n a b c d e f g h Enoent = a
-nameless n a b c d e f g h Ebusy = b
-nameless n a b c d e f g h Eexist = c
-nameless n a b c d e f g h Enodev = d
-nameless n a b c d e f g h Einval = e
-nameless n a b c d e f g h Enospc = f
-nameless n a b c d e f g h Eaddrinuse = g
-nameless n a b c d e f g h Eaddrnotavail = h
+use Rattle.shown.specs.Shown.{maskBytes}
 
 -- what `leave` leaves, by the errno value
 pub left-by : {e n old new : ℕ} → new ≡ cond (eqb e 0) n old → (e ≡ 0 → new ≡ n) × ((e ≡ 0 → ⊥) → new ≡ old)

@@ -1,15 +1,12 @@
 -- What a call leaves behind its references: a record over what they hold, then its name over lent memory at entry and at exit.
--- Each but the last takes what the function below promises of its result.
+-- Each takes what the function below promises of its result.
 -- Assumes nothing.
 use Prim.Native.Nat.{ℕ}
 use mathlib.Core.Bool.{Bool, cond}
 use mathlib.Core.List.{List, _++_}
 use mathlib.Core.Path.{_≡_}
 use lib.Dec.{eqb}
-use lib.ListN.{length}
 use denote.Ref.{RefT, now}
-use Rattle.errno.specs.declared.Errno.{Errno}
-use Rattle.errno.specs.Errno.{numberOf, nameOf, padded}
 use Rattle.mask.specs.Bits.{Bits, bits, numbers}
 use Rattle.rules.specs.declared.Masks.{Masks}
 use Rattle.rules.specs.declared.Matrix.{Matrix}
@@ -71,19 +68,3 @@ pub record ListLeft (promise : Listed → Type 0) (written written′ next next�
 
 abbrev pub ListShown : (Listed → Type 0) → LentNumber → LentNumber → LentNumber → LentNumber → ℕ → Type 0
 ListShown promise written written′ next next′ r = ListLeft promise (now written) (now written′) (now next) (now next′) r
-
--- no case has the value
-abbrev pub Nameless : ℕ → Type 0
-Nameless value = (e : Errno) → value ≡ numberOf e → ⊥
-
--- the case that has the value, where one has it
-abbrev pub CaseOf : ℕ → Errno → Type 0
-CaseOf value r = (e : Errno) → value ≡ numberOf e → r ≡ e
-
--- the name of an errno value: r is its length; for any other number r is 0, and the buffer holds what it held
-pub record NameLeft (value : ℕ) (before after : List ℕ) (r : ℕ) : Type 0 where
-  pub known : (e : Errno) → value ≡ numberOf e → (r ≡ length (nameOf e)) × (after ≡ padded (nameOf e))
-  pub unknown : Nameless value → (r ≡ 0) × (after ≡ before)
-
-abbrev pub NameShown : ℕ → Lent → Lent → ℕ → Type 0
-NameShown value entry exit r = NameLeft value (now entry) (now exit) r

@@ -1,7 +1,6 @@
 // What a caller in C is shown: answers with what they leave behind references. A refused call leaves what was there.
 //
-// Rests on errno, mask, maskbytes, rules, layout, sweep, guest and listing.
-use errno::Errno;
+// Rests on mask, maskbytes, rules, layout, sweep, guest and listing.
 use layout::Drivers;
 use layout::Words;
 use mask::Mask;
@@ -19,13 +18,11 @@ ghost use Rattle.layout.specs.Lent.{state};
 ghost use Rattle.sweep.specs.Sweeps.{Sweeps};
 ghost use Rattle.guest.specs.Masks.{Shows};
 ghost use Rattle.listing.specs.Listed.{Listing};
-ghost use Rattle.shown.specs.Shown.{bit, matrixOf, maskBytes, masksBytes, CaseOf};
-ghost use Rattle.shown.specs.Shown.{SweepShown, MasksShown, ListShown, NameShown};
+ghost use Rattle.shown.specs.Shown.{bit, matrixOf, maskBytes, masksBytes};
+ghost use Rattle.shown.specs.Shown.{SweepShown, MasksShown, ListShown};
 
-// The bytes of three masks, and of a name that is padded with zeros.
+// The bytes of three masks.
 pub const MASKS_BYTES: usize = 96;
-
-pub const NAME_BYTES: usize = 14;
 
 // Makes a sweep and answers the moves used; more is then 1 where any remain, and 0 where none does.
 pub fn sweep(words: &Words, drivers: &mut Drivers, budget: u32, more: &mut u8) -> u32
@@ -79,21 +76,6 @@ pub fn list(
     e
 }
 
-// The name of an errno value, padded with zeros, and its length; of any other number nothing, and 0.
-pub fn errno_name(value: u8, out: &mut [u8; NAME_BYTES]) -> usize
-    ensures { λ r. ⌜ NameShown value (out .entry) (out .exit) r ⌝ }
-{
-    let e = errno_of(value);
-    let n = errno::number(e);
-    if n != value {
-        return 0;
-    }
-    let name = errno::name(e);
-    let bytes = name.bytes;
-    *out = bytes;
-    name.len
-}
-
 pub fn flag(b: bool) -> u8
     ensures { λ r. ⌜ r ≡ bit b ⌝ }
 {
@@ -142,22 +124,5 @@ fn put_mask(mask: Mask, out: &mut [u8], at: usize)
     while i < 32 {
         out[at + i] = b[i];
         i += 1;
-    }
-}
-
-// The case with an errno value; of any other number the first.
-fn errno_of(value: u8) -> Errno
-    ensures { λ r. ⌜ CaseOf value r ⌝ }
-{
-    match value {
-        2 => Errno::Enoent,
-        16 => Errno::Ebusy,
-        17 => Errno::Eexist,
-        19 => Errno::Enodev,
-        22 => Errno::Einval,
-        28 => Errno::Enospc,
-        98 => Errno::Eaddrinuse,
-        99 => Errno::Eaddrnotavail,
-        _ => Errno::Enoent,
     }
 }

@@ -3,8 +3,8 @@
 use mathlib.Core.Path.{refl, sym, ap, _∙_}
 use borrow.Author.Needs.{needs}
 use Rattle.errno.specs.Errno.{numberOf}
-use Rattle.shown.proofs.errno_name.Statement.{statement}
-use Rattle.shown.proofs.errno_name.Tie as tie
+use Rattle.names.proofs.errno_name.Statement.{statement}
+use Rattle.names.proofs.errno_name.Tie as tie
 
 returns : tie.Need-returns
 returns c =

@@ -2,9 +2,9 @@
 -- Assumes nothing.
 use Rattle.errno.specs.declared.Errno.the-variants.{Enoent, Ebusy, Eexist, Enodev, Einval, Enospc, Eaddrinuse, Eaddrnotavail}
 use Rattle.errno.specs.Errno.{numberOf}
-use Rattle.shown.proofs.Laws.{one-case, nameless}
-use Rattle.shown.proofs.errno_of.Statement.{statement}
-use Rattle.shown.proofs.errno_of.Tie as tie
+use Rattle.names.proofs.Laws.{one-case, nameless}
+use Rattle.names.proofs.errno_of.Statement.{statement}
+use Rattle.names.proofs.errno_of.Tie as tie
 
 returns-9 : tie.Need-returns-9
 returns-9 c =

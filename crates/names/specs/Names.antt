@@ -1,0 +1,26 @@
+-- The name of an errno value, given the number.
+-- The rules: RULES.md, "Refusals".
+-- Assumes nothing.
+use Prim.Native.Nat.{ℕ}
+use mathlib.Core.List.{List}
+use mathlib.Core.Path.{_≡_}
+use lib.ListN.{length}
+use denote.Ref.{RefT, now}
+use Rattle.errno.specs.declared.Errno.{Errno}
+use Rattle.errno.specs.Errno.{numberOf, nameOf, padded}
+
+-- no case has the value
+abbrev pub Nameless : ℕ → Type 0
+Nameless value = (e : Errno) → value ≡ numberOf e → ⊥
+
+-- the case that has the value, where one has it
+abbrev pub CaseOf : ℕ → Errno → Type 0
+CaseOf value r = (e : Errno) → value ≡ numberOf e → r ≡ e
+
+-- the name of an errno value: r is its length; for any other number r is 0, and the buffer holds what it held
+pub record NameLeft (value : ℕ) (before after : List ℕ) (r : ℕ) : Type 0 where
+  pub known : (e : Errno) → value ≡ numberOf e → (r ≡ length (nameOf e)) × (after ≡ padded (nameOf e))
+  pub unknown : Nameless value → (r ≡ 0) × (after ≡ before)
+
+abbrev pub NameShown : ℕ → RefT (List ℕ) → RefT (List ℕ) → ℕ → Type 0
+NameShown value entry exit r = NameLeft value (now entry) (now exit) r
