@@ -1,6 +1,6 @@
 // The partition's configuration: setting it, and unbinding the queues that it takes away.
 //
-// Rests on errno, mask, rules, product, layout, record and store.
+// Rests on errno, mask, limits, rules, product, layout, record and store.
 use errno::Errno;
 use layout::Drivers;
 use layout::Words;
@@ -53,14 +53,14 @@ fn beyond(words: &Words, configuration: Configuration) -> bool
     let adapters = configuration.adapters;
     let domains = configuration.domains;
     let controls = configuration.controls;
-    if adapters.exceeds_adapter(record::max_adapter(words)) {
+    if limits::exceeds_adapter(adapters, record::max_adapter(words)) {
         return true;
     }
     let limit = record::max_domain(words);
-    if domains.exceeds_domain(limit) {
+    if limits::exceeds_domain(domains, limit) {
         return true;
     }
-    controls.exceeds_domain(limit)
+    limits::exceeds_domain(controls, limit)
 }
 
 // Unbinds the queues that were configured and are not any more.

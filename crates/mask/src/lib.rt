@@ -1,11 +1,8 @@
 // A mask of 256 bits as one value, and the two kinds of number that name its bits.
 //
 // Rests on nothing. Bit 0 is the most significant bit of the first word.
-ghost use Prim.Native.Nat.{_-_, _^_};
-ghost use mathlib.Core.Bool.{cond};
 ghost use mathlib.Core.Path.{_≡_};
-ghost use lib.Dec.{ltb, eqb};
-ghost use Rattle.mask.specs.Bits.{bits, noBits, allBits, bitsAbove, included, excluded};
+ghost use Rattle.mask.specs.Bits.{bits, noBits, allBits, included, excluded};
 ghost use Rattle.mask.specs.Bits.{both, either, someBelow, countBelow};
 
 // An adapter number. It is a kind of its own, so that no call can take a domain number for it.
@@ -30,22 +27,6 @@ impl Mask {
     {
         Mask {
             words: [u64::MAX; 4],
-        }
-    }
-
-    // The bits above a limit.
-    pub fn beyond(limit: u8) -> Mask
-        ensures { λ r. ⌜ bits r ≡ bitsAbove limit ⌝ }
-    {
-        let k = limit / 64;
-        let part = (1u64 << (63 - (limit % 64) as u32)) - 1;
-        Mask {
-            words: [
-                beyond_word(k, 0, part),
-                beyond_word(k, 1, part),
-                beyond_word(k, 2, part),
-                beyond_word(k, 3, part),
-            ],
         }
     }
 
@@ -126,26 +107,6 @@ impl Mask {
         self.and(other).any()
     }
 
-    // Whether a bit above the limit is set.
-    pub fn exceeds(self, limit: u8) -> bool
-        ensures { λ r. ⌜ r ≡ someBelow 256 (both (bits self) (bitsAbove limit)) ⌝ }
-    {
-        self.meets(Mask::beyond(limit))
-    }
-
-    // The same of a mask of adapters, and of one of domains.
-    pub fn exceeds_adapter(self, limit: Apid) -> bool
-        ensures { λ r. ⌜ r ≡ someBelow 256 (both (bits self) (bitsAbove (limit .0))) ⌝ }
-    {
-        self.exceeds(limit.0)
-    }
-
-    pub fn exceeds_domain(self, limit: Apqi) -> bool
-        ensures { λ r. ⌜ r ≡ someBelow 256 (both (bits self) (bitsAbove (limit .0))) ⌝ }
-    {
-        self.exceeds(limit.0)
-    }
-
     // How many bits are set.
     pub fn count(self) -> u32
         ensures { λ r. ⌜ r ≡ countBelow 256 (bits self) ⌝ }
@@ -155,16 +116,5 @@ impl Mask {
             + u64::count_ones(x[1])
             + u64::count_ones(x[2])
             + u64::count_ones(x[3])
-    }
-}
-
-// Word j of the bits above a limit that lies in word k, where part is that word.
-fn beyond_word(k: u8, j: u8, part: u64) -> u64
-    ensures { λ r. ⌜ r ≡ cond (ltb k j) (2 ^ 64 - 1) (cond (eqb k j) part 0) ⌝ }
-{
-    if k < j {
-        u64::MAX
-    } else {
-        if k == j { part } else { 0 }
     }
 }

@@ -1,4 +1,4 @@
--- `Mask::beyond` meets its contract.
+-- `beyond` meets its contract.
 -- Assumes nothing.
 use Prim.Native.Nat.{ℕ, _+_, _-_, _*_, _/_, _%_, _^_, _≤_, _<_}
 use native.Mathlib.Omega.{arith}
@@ -9,11 +9,11 @@ use lib.ListN.{getD}
 use lib.Dec.{eqb, ltb}
 use borrow.Author.Tests.{lt-ltb, le-ltb, ltb-true, ltb-false, eqb-true, eqb-false}
 use borrow.Author.Needs.{needs}
 use Rattle.mask.specs.Bits.{digit, bitsAbove}
 use Rattle.mask.proofs.Bit.{digit-zero, digit-ones, one-shl, one-shl-pos}
 use Rattle.mask.proofs.Laws.{same-test, each-bits, below-four}
-use Rattle.mask.proofs.Mask.beyond.Statement.{statement}
-use Rattle.mask.proofs.Mask.beyond.Tie as tie
+use Rattle.limits.proofs.beyond.Statement.{statement}
+use Rattle.limits.proofs.beyond.Tie as tie
 
 -- word q of the bits above a limit
 abbrev wordOf : ℕ → ℕ → ℕ

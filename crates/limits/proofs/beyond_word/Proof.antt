@@ -1,8 +1,8 @@
 -- `beyond_word` meets its contract: each way goes by the tests that led there.
 -- Assumes nothing.
 use borrow.Author.Tests.{lt-ltb, le-ltb, eq-eqb, ne-eqb}
-use Rattle.mask.proofs.beyond_word.Statement.{statement}
-use Rattle.mask.proofs.beyond_word.Tie as tie
+use Rattle.limits.proofs.beyond_word.Statement.{statement}
+use Rattle.limits.proofs.beyond_word.Tie as tie
 
 pub beyond-word-spec : {M : Type 1} → statement M
 beyond-word-spec =
