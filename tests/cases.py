@@ -1,6 +1,7 @@
 #!/usr/bin/env python3
 """What crates/cases reads, and what it must print, by the Python model of tests/service.py. A row of the table is what the
-program does and the label that it prints. `make expected` compares the output with crates/cases/stdin and crates/cases/stdout."""
+program does and the label that it prints. The argument is `stdin` or `stdout`. `make expected` compares the output with
+crates/cases/stdin and crates/cases/stdout."""
 import sys
 
 from service import NAMES, Service

@@ -19,6 +19,6 @@ abbrev pub answerOf : Outcome State → Answer
 answerOf (granted s) = Done
 answerOf (refused e) = Refused e
 
--- whether some queues can be added to the device at slot p: EADDRNOTAVAIL, then EADDRINUSE, whatever the drivers and the next state are
+-- whether some queues can be added to the device at slot p: EADDRNOTAVAIL, then EADDRINUSE, whatever drivers and next state
 abbrev pub Admits : Bits → ℕ → Lent → Answer → Type 0
 Admits new p words r = (qs : List ℕ) (t : State) → r ≡ answerOf (adding new p (stateIn (now words) qs) t)

@@ -25,7 +25,7 @@ pub fn in_range(words: &Words, kind: Kind, number: u16) -> bool
 }
 
 // The limit of a kind of number.
-pub fn limit(words: &Words, kind: Kind) -> u8
+fn limit(words: &Words, kind: Kind) -> u8
     ensures { λ r. ⌜ r ≡ limitOf kind (limits (words .entry)) ⌝ }
 {
     match kind {
@@ -49,7 +49,7 @@ pub fn admitted(words: &Words, slot: usize, wanted: Product) -> Answer
 }
 
 // Whether a queue that is wanted is reserved for the host.
-pub fn reserved(words: &Words, wanted: Product) -> bool
+fn reserved(words: &Words, wanted: Product) -> bool
     ensures { λ r. ⌜ r ≡ someBelow queues (both (queuesOf wanted) (reserved (host (words .entry)))) ⌝ }
 {
     wanted.meets(Product {

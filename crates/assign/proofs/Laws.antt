@@ -1,4 +1,4 @@
--- What assigning writes and reads, the rule at a slot, and the place of a number.
+-- What assigning writes and reads, the rule at a slot, and where a number goes.
 -- Assumes nothing.
 use Prim.Native.Nat.{ℕ, zero, suc, _+_, _^_, _<_}
 use native.Mathlib.Omega.{arith}
@@ -25,9 +25,9 @@ use Rattle.rules.proofs.Refusals.{absorbed, refused-exactly}
 use Rattle.layout.specs.Carried.{CarriedWords}
 use Rattle.layout.specs.Layout.{wordCount, four, maskAt, deviceIn, limitsIn, hostIn, stateIn, wordsOf, putFour, putNumbers, deviceAt, kindAt}
 use Rattle.layout.proofs.Laws.{cond-below, device-there, numbers-there, words-of, put-same, read-numbers, refused-carried, carried-as}
-use Rattle.assign.specs.Numbers.{value, changed, assigned, placeIn}
-use Rattle.assign.specs.declared.Place.{Place}
-use Rattle.assign.specs.declared.Place.the-variants.{At, Nowhere}
+use Rattle.assign.specs.Numbers.{value, changed, assigned, locatedIn}
+use Rattle.assign.specs.declared.Located.{Located}
+use Rattle.assign.specs.declared.Located.the-variants.{At, Nowhere}
 
 -- four of the record's words
 four-words : {ws : List ℕ} → Sized 64 wordCount ws → (k : ℕ) → Sized 64 4 (four ws k)
@@ -82,22 +82,22 @@ module _ (k : Kind) (n p : ℕ) (ws qs : List ℕ) where
       ap (λ (b : Bool). cond b (granted (stateIn ws qs)) (adding (paired k n (deviceIn ws p)) p (stateIn ws qs) numbered)) none
       ∙ ap (λ (b : Bits). adding b p (stateIn ws qs) numbered) (sym pairs) ∙ h
 
--- ---- the place of a number
+-- ---- where a number goes
 
 module _ (k : Kind) (i : Id) (text ws : List ℕ) where
   -- a rule for the device with the id and the number of the text
   abbrev asked : (ℕ → ℕ → State → Outcome State) → State → Outcome State
   asked next s = reading (numberText text) (λ n. onDevice i s (λ p. cond (leb n (limitOf k (s .limits))) (next n p s) (refused Enodev)))
 
-  -- the same at a place
-  abbrev placed : (ℕ → ℕ → State → Outcome State) → Place → State → Outcome State
+  -- the same where the number goes
+  abbrev placed : (ℕ → ℕ → State → Outcome State) → Located → State → Outcome State
   placed next (At p n) s = next n p s
   placed next (Nowhere e) s = refused e
 
-  by-place : (next : ℕ → ℕ → State → Outcome State) (r : Place) → r ≡ placeIn k i ws (numberText text) → (qs : List ℕ)
+  by-located : (next : ℕ → ℕ → State → Outcome State) (r : Located) → r ≡ locatedIn k i ws (numberText text) → (qs : List ℕ)
       → asked next (stateIn ws qs) ≡ placed next r (stateIn ws qs)
-  unfolding placeIn reading onDevice stateIn
-  by-place next r e qs = go (numberText text) ∙ ap (λ (x : Place). placed next x s) (sym e)
+  unfolding locatedIn reading onDevice stateIn
+  by-located next r e qs = go (numberText text) ∙ ap (λ (x : Located). placed next x s) (sym e)
     where
       s : State
       s = stateIn ws qs
@@ -112,7 +112,7 @@ module _ (k : Kind) (i : Id) (text ws : List ℕ) where
       tests n false b = refl
 
       go : (o : Outcome ℕ) → reading o (λ n. onDevice i s (λ p. cond (leb n (limitOf k (s .limits))) (next n p s) (refused Enodev)))
-          ≡ placed next (placeIn k i ws o) s
+          ≡ placed next (locatedIn k i ws o) s
       go (granted n) = tests n (ltb p slots) (leb n (limitOf k (limitsIn ws)))
       go (refused e) = refl
 
@@ -122,8 +122,8 @@ module _ (k : Kind) (i : Id) (text ws : List ℕ) where
     pub number : n ≡ value (numberText text)
     pub there : p < slots
 
-  pub goes : {p n : ℕ} → At p n ≡ placeIn k i ws (numberText text) → Goes p n
-  unfolding placeIn value
+  pub goes : {p n : ℕ} → At p n ≡ locatedIn k i ws (numberText text) → Goes p n
+  unfolding locatedIn value
   goes {p} {n} h = go (numberText text) refl h
     where
       q : ℕ
@@ -138,29 +138,29 @@ module _ (k : Kind) (i : Id) (text ws : List ℕ) where
       tests m f true false e h = let z : _≡_ {A = ℕ} 0 1 = cc in absurd (omega arith)
       tests m f false b e h = let z : _≡_ {A = ℕ} 0 1 = cc in absurd (omega arith)
 
-      go : (o : Outcome ℕ) → o ≡ numberText text → At p n ≡ placeIn k i ws o → Goes p n
+      go : (o : Outcome ℕ) → o ≡ numberText text → At p n ≡ locatedIn k i ws o → Goes p n
       go (granted m) f h = tests m f (ltb q slots) (leb m (limitOf k (limitsIn ws))) refl h
       go (refused e) f h = let z : _≡_ {A = ℕ} 0 1 = cc in absurd (omega arith)
 
-  -- a rule that is carried out at the place, or refused there
-  pub at-place : (next : ℕ → ℕ → State → Outcome State) (change : ℕ → ℕ → List ℕ → List ℕ) {p n : ℕ} {vs : List ℕ} {r : Answer}
-      → At p n ≡ placeIn k i ws (numberText text) → CarriedWords (next n p) (change p n) ws vs r
+  -- a rule that is carried out there, or refused
+  pub at-located : (next : ℕ → ℕ → State → Outcome State) (change : ℕ → ℕ → List ℕ → List ℕ) {p n : ℕ} {vs : List ℕ} {r : Answer}
+      → At p n ≡ locatedIn k i ws (numberText text) → CarriedWords (next n p) (change p n) ws vs r
       → CarriedWords (asked next) (λ l. change (slotOf i (deviceIn l)) (value (numberText text)) l) ws vs r
-  at-place next change {p} {n} e c =
+  at-located next change {p} {n} e c =
       carried-as (next n p) (asked next) (change p n) (λ l. change (slotOf i (deviceIn l)) (value (numberText text)) l) ws
-      (by-place next (At p n) e) (ap₂ (λ (j m : ℕ). change j m ws) (sym (goes e .slot)) (sym (goes e .number))) c
+      (by-located next (At p n) e) (ap₂ (λ (j m : ℕ). change j m ws) (sym (goes e .slot)) (sym (goes e .number))) c
 
-  pub no-place : (next : ℕ → ℕ → State → Outcome State) (effect : List ℕ → List ℕ) {e : Errno}
-      → Nowhere e ≡ placeIn k i ws (numberText text) → CarriedWords (asked next) effect ws ws (Refused e)
-  no-place next effect {e} h = refused-carried (asked next) effect ws e (by-place next (Nowhere e) h)
+  pub not-located : (next : ℕ → ℕ → State → Outcome State) (effect : List ℕ → List ℕ) {e : Errno}
+      → Nowhere e ≡ locatedIn k i ws (numberText text) → CarriedWords (asked next) effect ws ws (Refused e)
+  not-located next effect {e} h = refused-carried (asked next) effect ws e (by-located next (Nowhere e) h)
 
-  -- the place, by what the two tests find of a number that was read
+  -- where it goes, by what the two tests find of a number that was read
   pub by-tests : (n p : ℕ) → numberText text ≡ granted n → p ≡ slotOf i (deviceIn ws) → {a b : Bool} → ltb p slots ≡ a
       → leb n (limitOf k (limitsIn ws)) ≡ b
-      → cond a (cond b (At p n) (Nowhere Enodev)) (Nowhere Enoent) ≡ placeIn k i ws (numberText text)
-  unfolding placeIn
+      → cond a (cond b (At p n) (Nowhere Enodev)) (Nowhere Enoent) ≡ locatedIn k i ws (numberText text)
+  unfolding locatedIn
   by-tests n p e f ta tb =
-      sym (ap (placeIn k i ws) e ∙ ap (λ (j : ℕ). cond (ltb j slots) (cond (leb n (limitOf k (limitsIn ws))) (At j n) (Nowhere Enodev)) (Nowhere Enoent)) (sym f)
+      sym (ap (locatedIn k i ws) e ∙ ap (λ (j : ℕ). cond (ltb j slots) (cond (leb n (limitOf k (limitsIn ws))) (At j n) (Nowhere Enodev)) (Nowhere Enoent)) (sym f)
       ∙ ap₂ (λ (a b : Bool). cond a (cond b (At p n) (Nowhere Enodev)) (Nowhere Enoent)) ta tb)
 
 -- the answer is a refusal exactly where demand 2 says

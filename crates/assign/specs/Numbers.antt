@@ -19,8 +19,8 @@ use Rattle.rules.specs.Refusals.{RefusedExactly}
 use Rattle.layout.specs.Layout.{limitsIn, hostIn, deviceIn, putNumbers, wordsOf}
 use Rattle.layout.specs.Lent.{Lent}
 use Rattle.layout.specs.Carried.{CarriedWords, Obeys}
-use Rattle.assign.specs.declared.Place.{Place}
-use Rattle.assign.specs.declared.Place.the-variants.{At, Nowhere}
+use Rattle.assign.specs.declared.Located.{Located}
+use Rattle.assign.specs.declared.Located.the-variants.{At, Nowhere}
 
 -- the value of a text's number; bad text has none, and 0 stands for it
 unfoldable pub value : Outcome ℕ → ℕ
@@ -45,16 +45,16 @@ assigned k i text ws = assignedAt k (slotOf i (deviceIn ws)) (value (numberText 
 abbrev pub unassigned : Kind → Id → List ℕ → List ℕ → List ℕ
 unassigned k i text ws = unassignedAt k (slotOf i (deviceIn ws)) (value (numberText text)) ws
 
--- where a number that was read goes: the slot of the device with an id, and the number; ENOENT, then ENODEV
-unfoldable pub placeIn : Kind → Id → List ℕ → Outcome ℕ → Place
-placeIn k i ws (granted n) =
+-- for a private function: where a number that was read goes: the slot of the device with an id, and the number; ENOENT, then ENODEV
+unfoldable pub locatedIn : Kind → Id → List ℕ → Outcome ℕ → Located
+locatedIn k i ws (granted n) =
     cond (ltb (slotOf i (deviceIn ws)) slots)
     (cond (leb n (limitOf k (limitsIn ws))) (At (slotOf i (deviceIn ws)) n) (Nowhere Enodev)) (Nowhere Enoent)
-placeIn k i ws (refused e) = Nowhere e
+locatedIn k i ws (refused e) = Nowhere e
 
 -- the same of the number that a text says, and of lent memory
-abbrev pub placeOf : Kind → Id → Lent → Lent → Place
-placeOf k i text words = placeIn k i (now words) (numberText (now text))
+abbrev pub locatedOf : Kind → Id → Lent → Lent → Located
+locatedOf k i text words = locatedIn k i (now words) (numberText (now text))
 
 -- assigning the number of a text, on the words ws, which are left as vs
 pub record Assigning (k : Kind) (i : Id) (text ws vs : List ℕ) (r : Answer) : Type 0 where

@@ -13,10 +13,10 @@ ghost use mathlib.Core.Path.{_≡_};
 ghost use Rattle.rules.specs.State.{slots};
 ghost use Rattle.rules.specs.Commands.{assignAt, unassignAt};
 ghost use Rattle.layout.specs.Carried.{Obeys};
-ghost use Rattle.assign.specs.Numbers.{Assigns, Unassigns, assignedAt, unassignedAt, placeOf};
+ghost use Rattle.assign.specs.Numbers.{Assigns, Unassigns, assignedAt, unassignedAt, locatedOf};
 
 // Where a number goes: a slot and the number, which is in range, or the refusal.
-enum Place {
+enum Located {
     At(usize, u8),
     Nowhere(Errno),
 }
@@ -26,8 +26,8 @@ pub fn assign(words: &mut Words, kind: Kind, id: Id, text: &[u8]) -> Answer
     ensures { λ r. ⌜ Assigns kind id (text .entry) (words .entry) (words .exit) r ⌝ }
 {
     match locate(words, kind, id, text) {
-        Place::At(slot, number) => assign_at(words, kind, slot, number),
-        Place::Nowhere(e) => Answer::Refused(e),
+        Located::At(slot, number) => assign_at(words, kind, slot, number),
+        Located::Nowhere(e) => Answer::Refused(e),
     }
 }
 
@@ -36,27 +36,27 @@ pub fn unassign(words: &mut Words, kind: Kind, id: Id, text: &[u8]) -> Answer
     ensures { λ r. ⌜ Unassigns kind id (text .entry) (words .entry) (words .exit) r ⌝ }
 {
     match locate(words, kind, id, text) {
-        Place::At(slot, number) => unassign_at(words, kind, slot, number),
-        Place::Nowhere(e) => Answer::Refused(e),
+        Located::At(slot, number) => unassign_at(words, kind, slot, number),
+        Located::Nowhere(e) => Answer::Refused(e),
     }
 }
 
 // Where the number that a text says goes, for the device with an id.
-fn locate(words: &Words, kind: Kind, id: Id, text: &[u8]) -> Place
-    ensures { λ r. ⌜ r ≡ placeOf kind id (text .entry) (words .entry) ⌝ }
+fn locate(words: &Words, kind: Kind, id: Id, text: &[u8]) -> Located
+    ensures { λ r. ⌜ r ≡ locatedOf kind id (text .entry) (words .entry) ⌝ }
 {
     match number::parse(text) {
         Number::Value(n) => {
             let slot = lookup::find(words, id);
             if SLOTS <= slot {
-                return Place::Nowhere(Errno::Enoent);
+                return Located::Nowhere(Errno::Enoent);
             }
             if !admit::in_range(words, kind, n) {
-                return Place::Nowhere(Errno::Enodev);
+                return Located::Nowhere(Errno::Enodev);
             }
-            Place::At(slot, (n % 256) as u8)
+            Located::At(slot, (n % 256) as u8)
         }
-        Number::Bad => Place::Nowhere(Errno::Einval),
+        Number::Bad => Located::Nowhere(Errno::Einval),
     }
 }
 

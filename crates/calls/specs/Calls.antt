@@ -26,7 +26,8 @@ use Rattle.devices.specs.Effects.{created, removed, opened, closed}
 use Rattle.assign.specs.Numbers.{assigned, unassigned, Assigning}
 use Rattle.host.specs.Masks.{withApmask, withAqmask}
 use Rattle.configure.specs.Configured.{configured}
-use Rattle.model.specs.Steps.{Command, create, remove, openIt, closeIt, assign, unassign, setApmask, setAqmask, configure, Step, command, move, commandsOf, afterAll, answers}
+use Rattle.model.specs.Steps.{Command, create, remove, openIt, closeIt, assign, unassign, setApmask, setAqmask, configure}
+use Rattle.model.specs.Steps.{Step, command, move, commandsOf, afterAll, answers}
 use Rattle.model.specs.Sweeps.{sweepSteps}
 use Rattle.model.specs.Model.{Model, kept}
 use Rattle.model.specs.Model as Model

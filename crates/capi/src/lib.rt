@@ -1,13 +1,13 @@
 // The C interface: include/zokormendu.h has the declarations. Each function takes its arguments apart and calls the
-// library's function of the same name.
+// library's function for it.
 //
 // Rests on mask, fields, rules, layout, names, shown and the crates whose functions it exports.
+use errno::NAME_BYTES;
 use fields::CONFIGURATION_BYTES;
 use layout::Drivers;
 use layout::Words;
 use mask::Apid;
 use mask::Apqi;
-use names::NAME_BYTES;
 use rules::Id;
 use shown::MASKS_BYTES;
 ghost use mathlib.Core.Path.{_≡_};

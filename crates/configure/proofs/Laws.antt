@@ -26,7 +26,8 @@ use Rattle.layout.specs.Layout.{wordCount, limitsIn, configIn, stateIn, putConf
 use Rattle.product.specs.declared.Product.{Product}
 use Rattle.product.specs.Meet.{queuesOf}
 use Rattle.layout.proofs.Laws.{carried-refused, carried-granted, read-config}
-use Rattle.configure.specs.Configured.{gone, domainsOf, dropped, unbindOne, unbindRow, configured as configuredBy}
+use Rattle.configure.specs.Configured.{gone, domainsOf, dropped, unbindRow, configured as configuredBy}
+use Rattle.layout.specs.Layout.{unbindOne}
 
 -- ---- the queues that are unbound
 

@@ -2,20 +2,21 @@
 -- The rules: RULES.md, "Commands".
 -- Assumes nothing.
 use Prim.Native.Nat.{ℕ, zero, suc, _+_, _*_}
-use mathlib.Core.Bool.{cond, not, _&&_}
+use mathlib.Core.Bool.{not, _&&_}
 use mathlib.Core.List.{List}
-use lib.ListN.{set}
 use Rattle.mask.specs.declared.Mask.{Mask}
 use Rattle.mask.specs.Bits.{Bits, bits}
 use Rattle.rules.specs.declared.Answer.{Answer}
 use Rattle.rules.specs.declared.Configuration.{Configuration}
 use Rattle.rules.specs.State.{queues, apqi}
 use Rattle.rules.specs.Commands.{configure}
-use Rattle.layout.specs.Layout.{putConfig, unbind, takenAway}
+use Rattle.layout.specs.Layout.{putConfig, unbindOne, unbind, takenAway}
 use Rattle.layout.specs.Lent.{Lent}
 use Rattle.layout.specs.Carried.{Memory, memory, ObeysBoth}
 use Rattle.product.specs.declared.Product.{Product}
 use Rattle.product.specs.Meet.{queuesOf}
+
+-- ---- for private functions
 
 -- the queues that were in one product and are not in another
 abbrev pub gone : Product → Product → Bits
@@ -29,14 +30,12 @@ domainsOf p a d = bits (p .adapters) a && bits (p .domains) d
 abbrev pub dropped : Mask → Mask → Bits
 dropped was is q = bits was (apqi q) && not (bits is (apqi q))
 
--- the driver bytes with that of queue q cleared, if it is gone
-abbrev pub unbindOne : List ℕ → Bits → ℕ → List ℕ
-unbindOne qs gone q = cond (gone q) (set qs q 0) qs
-
--- the same of the first n queues of adapter a
+-- the driver bytes with those of the first n queues of adapter a that are away cleared
 unfoldable pub unbindRow : List ℕ → Bits → ℕ → ℕ → List ℕ
-unbindRow qs gone a zero = qs
-unbindRow qs gone a (suc n) = unbindOne (unbindRow qs gone a n) gone (a * 256 + n)
+unbindRow qs away a zero = qs
+unbindRow qs away a (suc n) = unbindOne (unbindRow qs away a n) away (a * 256 + n)
+
+-- ---- for setting it
 
 -- the memory with the configuration replaced, and the queues that it takes away unbound
 abbrev pub configured : Configuration → Memory → Memory

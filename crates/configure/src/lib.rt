@@ -17,7 +17,8 @@ ghost use Rattle.rules.specs.State.{apqn, queues};
 ghost use Rattle.rules.specs.Commands.{beyondLimits};
 ghost use Rattle.layout.specs.Layout.{unbind};
 ghost use Rattle.layout.specs.Lent.{limits};
-ghost use Rattle.configure.specs.Configured.{gone, domainsOf, dropped, unbindOne, unbindRow, Configures};
+ghost use Rattle.configure.specs.Configured.{gone, domainsOf, dropped, unbindRow, Configures};
+ghost use Rattle.layout.specs.Layout.{unbindOne};
 
 // Replaces the configuration. A queue that is no longer configured is unbound at once.
 pub fn configure(words: &mut Words, drivers: &mut Drivers, configuration: Configuration) -> Answer

@@ -27,6 +27,8 @@ opened i ws = putOpen ws (slotOf i (deviceIn ws)) true
 abbrev pub closed : Id → List ℕ → List ℕ
 closed i ws = putOpen ws (slotOf i (deviceIn ws)) false
 
+-- ---- for a private function
+
 -- one of two, by whether a flag is as wanted
 abbrev pub asWanted : {A : Type 0} → Bool → Bool → A → A → A
 asWanted true o a b = cond o a b

@@ -17,9 +17,12 @@ pub enum Errno {
     Eaddrnotavail,
 }
 
+// The bytes of a name that is padded with zeros.
+pub const NAME_BYTES: usize = 14;
+
 // A name as ASCII bytes: the first len of them, then zeros.
 pub struct Ascii {
-    pub bytes: [u8; 14],
+    pub bytes: [u8; NAME_BYTES],
     pub len: usize,
 }
 
@@ -27,7 +30,7 @@ pub struct Ascii {
 struct Entry {
     number: u8,
     len: usize,
-    name: [u8; 14],
+    name: [u8; NAME_BYTES],
 }
 
 // By ascending number.

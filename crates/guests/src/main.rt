@@ -70,7 +70,7 @@ fn step(words: &mut Words, drivers: &mut Drivers, who: u8, what: u8, text: &[u8]
     };
     match what {
         b'm' => list(words, drivers, id),
-        b's' => moves(sweep::sweep(words, drivers, 131072)),
+        b's' => moves(sweep::sweep(words, drivers, sweep::MOST_MOVES)),
         b'f' | b'p' | b'q' | b'k' => answer(host(words, drivers, what, text)),
         _ => answer(device(words, what, id, text)),
     }

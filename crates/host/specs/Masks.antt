@@ -34,7 +34,9 @@ withApmask = withMask apmaskAt
 abbrev pub withAqmask : List ℕ → List ℕ → List ℕ
 withAqmask = withMask aqmaskAt
 
--- the answer for a mask's text, good or not, and the queues that are reserved with it: EINVAL, then EADDRINUSE if one is assigned
+-- ---- for private functions
+
+-- the answer for a mask's text, good or not, and the queues that are then reserved: EINVAL, then EADDRINUSE if one is assigned
 unfoldable pub admitted : Bool → Bits → Devices → Answer
 admitted good reserved vs =
     cond good (cond (someBelow queues (both reserved (assigned vs))) (Refused Eaddrinuse) Done) (Refused Einval)

@@ -186,10 +186,14 @@ ones = 2 ^ 64 - 1
 unfoldable pub freshWords : ℕ → ℕ → List ℕ
 freshWords a d = a ∷ d ∷ (replicate 8 ones ++ replicate (wordCount - 10) 0)
 
--- the driver bytes with those of the queues that are no longer configured cleared
+-- the driver bytes with that of queue q cleared, if it is among those away
+abbrev pub unbindOne : List ℕ → Bits → ℕ → List ℕ
+unbindOne qs away q = cond (away q) (set qs q 0) qs
+
+-- the driver bytes with those of the first n queues that are away cleared
 unfoldable pub unbind : List ℕ → Bits → ℕ → List ℕ
-unbind qs gone zero = qs
-unbind qs gone (suc n) = cond (gone n) (set (unbind qs gone n) n 0) (unbind qs gone n)
+unbind qs away zero = qs
+unbind qs away (suc n) = unbindOne (unbind qs away n) away n
 
 -- the queues that a configuration takes away from the one that the words hold
 unfoldable pub takenAway : List ℕ → Configuration → Bits

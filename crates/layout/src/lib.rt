@@ -1,5 +1,5 @@
 // The record in memory that the caller lends: how large it is and where its parts lie, with the definitions by which it is read.
-// `record` reads its parts, `store` writes them, and no other crate sees where one lies.
+// `record` reads its parts, `store` writes them, and no other crate's code sees where one lies.
 //
 // Rests on errno, mask and rules.
 use rules::Kind;
@@ -13,6 +13,10 @@ ghost use Rattle.layout.specs.Layout.{wordCount, kindAt};
 pub const SLOTS: usize = 8;
 
 // Where the parts lie: two limits, five masks of four words each, a hardware type for each of 256 adapters, the slots.
+pub const MAX_ADAPTER: usize = 0;
+
+pub const MAX_DOMAIN: usize = 1;
+
 pub const APMASK: usize = 2;
 
 pub const AQMASK: usize = 6;
@@ -27,8 +31,14 @@ pub const TYPES: usize = 22;
 
 pub const FIRST_SLOT: usize = TYPES + 256;
 
-// The words of a slot.
+// The words of a slot: whether a device is present, whether it is open, the two of its id, then three masks.
 pub const SLOT_WORDS: usize = 16;
+
+pub const OPEN: usize = 1;
+
+pub const ID_HI: usize = 2;
+
+pub const ID_LO: usize = 3;
 
 // The number of words of a record.
 pub const WORDS: usize = FIRST_SLOT + SLOTS * SLOT_WORDS;

@@ -14,7 +14,7 @@ fn main() {
     let mut drivers = [0u8; QUEUES];
     list(&mut words, &mut drivers);
     left(&words, &drivers);
-    let r = sweep::sweep(&words, &mut drivers, 131072);
+    let r = sweep::sweep(&words, &mut drivers, sweep::MOST_MOVES);
     print::number(b"sweep ", r.used as u64);
     left(&words, &drivers);
 }

@@ -4,7 +4,7 @@ use Prim.Native.Nat.{ℕ, zero, suc, _+_, _-_, _*_, _/_, _%_, _^_, _≤_, _<_, z
 use native.Mathlib.Nat.{le-refl, le-of-suc-le-suc, not-suc-le-zero, eq-or-lt-of-le, add-zero, add-suc, zero-add, add-assoc, add-comm, pow-suc, mod-lt, div-add-mod', le-div-iff-mul-le, div-lt-iff-lt-mul}
 use native.Mathlib.Omega.{arith}
 use mathlib.Core.Path.{_≡_, refl, sym, ap, ap₂, subst, fun-ext, _∙_}
-use mathlib.Core.Logic.{_⊎_, inl, inr, _↔_}
+use mathlib.Core.Logic.{_⊎_, inl, inr}
 use mathlib.Core.Bool.{Bool, true, false, cond, not, _&&_, _||_, or-true, or-false, or-comm, or-assoc, and-comm, true≢false}
 use mathlib.Core.List.{List, [], _∷_, map}
 use lib.ListN.{length, getD, set, replicate, getD-replicate, List·getD-eq-default}
@@ -151,9 +151,6 @@ some-elim (suc n) m e = go (someBelow n m) refl (some-elim n m)
     go : (b : Bool) → someBelow n m ≡ b → (someBelow n m ≡ true → (i : ℕ) × (i < n) × (m i ≡ true)) → (i : ℕ) × (i < suc n) × (m i ≡ true)
     go true q rest = let (i, l, h) = rest q in (i, omega arith, h)
     go false q rest = (n, le-refl (suc n), sym (ap (λ (b : Bool). b || m n) q) ∙ e)
-
-pub some-exactly : (n : ℕ) (m : Bits) → (someBelow n m ≡ true) ↔ ((i : ℕ) × (i < n) × (m i ≡ true))
-some-exactly n m = (some-elim n m, λ w. some-intro n m (w .0) (w .1) (w .2))
 
 never-true : (b : Bool) → (b ≡ true → ⊥) → b ≡ false
 never-true true h = absurd (h refl)

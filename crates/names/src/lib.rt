@@ -2,10 +2,8 @@
 //
 // Rests on errno.
 use errno::Errno;
+use errno::NAME_BYTES;
 ghost use Rattle.names.specs.Names.{CaseOf, NameShown};
-
-// The bytes of a name that is padded with zeros.
-pub const NAME_BYTES: usize = 14;
 
 // The name of an errno value, padded with zeros, and its length; of any other number nothing, and 0.
 pub fn errno_name(value: u8, out: &mut [u8; NAME_BYTES]) -> usize

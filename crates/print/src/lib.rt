@@ -7,7 +7,7 @@ use mask::Mask;
 use rules::Answer;
 use rules::Masks;
 ghost use mathlib.Core.Path.{_≡_};
-ghost use Prim.Native.Nat.{min};
+ghost use Prim.Native.Nat.{_+_, min};
 ghost use lib.ListN.{length};
 ghost use Rattle.io.specs.Digits.{Fewest};
 ghost use Rattle.errno.specs.Errno.{numberOf};
@@ -102,17 +102,18 @@ pub fn name(e: Errno) -> u8
     errno::number(e)
 }
 
-// The three masks of a matrix, a line for each. Answers how many lines that took.
-pub fn masks(m: Masks) -> usize
-    ensures { λ r. ⌜ r ≡ 3 ⌝ }
+// The three masks of a matrix, a line for each. Answers how many bits are set in all.
+pub fn masks(m: Masks) -> u32
+    ensures { λ r. ⌜ r ≡ countBelow 256 (bits (m .adapters)) + countBelow 256 (bits (m .domains))
+        + countBelow 256 (bits (m .controls)) ⌝ }
 {
     let adapters = m.adapters;
     let domains = m.domains;
     let controls = m.controls;
-    mask_bits(b" adapters", adapters);
-    mask_bits(b" domains", domains);
-    mask_bits(b" controls", controls);
-    3
+    let a = mask_bits(b" adapters", adapters);
+    let d = mask_bits(b" domains", domains);
+    let c = mask_bits(b" controls", controls);
+    a + d + c
 }
 
 // A line of a label and the numbers of a mask's bits. Answers how many there are.

@@ -8,6 +8,11 @@ use layout::CONTROLS;
 use layout::DOMAINS;
 use layout::Drivers;
 use layout::FIRST_SLOT;
+use layout::ID_HI;
+use layout::ID_LO;
+use layout::MAX_ADAPTER;
+use layout::MAX_DOMAIN;
+use layout::OPEN;
 use layout::SLOT_WORDS;
 use layout::SLOTS;
 use layout::TYPES;
@@ -40,13 +45,13 @@ fn mask_at(words: &Words, at: usize) -> Mask
 pub fn max_adapter(words: &Words) -> Apid
     ensures { λ r. ⌜ r .0 ≡ limits (words .entry) .adapter ⌝ }
 {
-    Apid(limit(words[0]))
+    Apid(limit(words[MAX_ADAPTER]))
 }
 
 pub fn max_domain(words: &Words) -> Apqi
     ensures { λ r. ⌜ r .0 ≡ limits (words .entry) .domain ⌝ }
 {
-    Apqi(limit(words[1]))
+    Apqi(limit(words[MAX_DOMAIN]))
 }
 
 // A limit is at most 255.
@@ -106,7 +111,7 @@ pub fn is_open(words: &Words, slot: usize) -> bool
     ensures { λ r. ⌜ r ≡ devices (words .entry) slot .isOpen ⌝ }
 {
     if slot < SLOTS {
-        return words[FIRST_SLOT + slot * SLOT_WORDS + 1] != 0;
+        return words[FIRST_SLOT + slot * SLOT_WORDS + OPEN] != 0;
     }
     false
 }
@@ -116,8 +121,8 @@ pub fn id(words: &Words, slot: usize) -> Id
 {
     if slot < SLOTS {
         return Id {
-            hi: words[FIRST_SLOT + slot * SLOT_WORDS + 2],
-            lo: words[FIRST_SLOT + slot * SLOT_WORDS + 3],
+            hi: words[FIRST_SLOT + slot * SLOT_WORDS + ID_HI],
+            lo: words[FIRST_SLOT + slot * SLOT_WORDS + ID_LO],
         };
     }
     Id { hi: 0, lo: 0 }

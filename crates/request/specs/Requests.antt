@@ -50,4 +50,5 @@ pub record Stepped (x : Request) (m n : Memory) (r : ℕ) : Type 0 where
 -- the command of an operation is carried out, of lent memory at entry and at exit
 abbrev pub Obeyed : ℕ → Kind → Id → Lent → Lent → Lent → Lent → Lent → Answer → Type 0
 Obeyed op k i text words words′ drivers drivers′ r =
-    Stepped (command (commandOf op k i (now text))) (memory (now words) (now drivers)) (memory (now words′) (now drivers′)) (answered r)
+    Stepped (command (commandOf op k i (now text))) (memory (now words) (now drivers))
+    (memory (now words′) (now drivers′)) (answered r)

@@ -37,16 +37,6 @@ turn-end n k p h =
     let l : n - k ≡ 0 = omega arith in
     subst (λ (m : ℕ). firstFrom m k p ≡ k) (sym l) refl
 
--- the answer is at most one past the last
-pub first-le : (n k : ℕ) (p : Bits) → firstFrom n k p ≤ k + n
-unfolding firstFrom
-first-le zero k p = omega arith
-first-le (suc n) k p = go (p k) (first-le n (suc k) p)
-  where
-    go : (b : Bool) → firstFrom n (suc k) p ≤ suc k + n → cond b k (firstFrom n (suc k) p) ≤ k + suc n
-    go true h = omega arith
-    go false h = omega arith
-
 -- the test holds of the answer, unless there is none
 pub first-holds : (n k : ℕ) (p : Bits) → firstFrom n k p < k + n → p (firstFrom n k p) ≡ true
 unfolding firstFrom
@@ -68,11 +58,3 @@ first-before (suc n) k p j l h = go (p k) refl h (first-before n (suc k) p j)
         → (suc k ≤ j → j < firstFrom n (suc k) p → p j ≡ false) → p j ≡ false
     go true e h next = absurd (omega arith)
     go false e h next = ⊎-elim (λ q. subst (λ (m : ℕ). p m ≡ false) q e) (λ q. next q h) (eq-or-lt-of-le l)
-
--- equal tests have equal answers
-pub first-cong : (n k : ℕ) (p p′ : Bits) → ((j : ℕ) → k ≤ j → j < k + n → p j ≡ p′ j) → firstFrom n k p ≡ firstFrom n k p′
-unfolding firstFrom
-first-cong zero k p p′ e = refl
-first-cong (suc n) k p p′ e =
-    ap (λ (b : Bool). cond b k (firstFrom n (suc k) p)) (e k (omega arith) (omega arith))
-    ∙ ap (cond (p′ k) k) (first-cong n (suc k) p p′ (λ j l h. e j (omega arith) (omega arith)))

@@ -72,7 +72,8 @@ wordsWith ns = record { words = numbers 64 4 (maskWith ns) 0 }
 
 abbrev pub config : List ℕ → List ℕ → Step
 config us ds =
-    command (configure (record { adapters = wordsWith us; domains = wordsWith ds; controls = wordsWith []; types = replicate 256 10 }))
+    command (configure
+    (record { adapters = wordsWith us; domains = wordsWith ds; controls = wordsWith []; types = replicate 256 10 }))
 
 -- a fresh record of the highest adapter n
 abbrev pub limited : ℕ → State

@@ -8,6 +8,9 @@ use layout::CONTROLS;
 use layout::DOMAINS;
 use layout::Drivers;
 use layout::FIRST_SLOT;
+use layout::MAX_ADAPTER;
+use layout::MAX_DOMAIN;
+use layout::OPEN;
 use layout::SLOT_WORDS;
 use layout::SLOTS;
 use layout::TYPES;
@@ -43,8 +46,8 @@ fn put_mask(words: &mut Words, at: usize, mask: Mask)
 pub fn put_limits(words: &mut Words, adapter: Apid, domain: Apqi)
     ensures { λ r. ⌜ now (words .exit) ≡ putLimits (now (words .entry)) (adapter .0) (domain .0) ⌝ }
 {
-    words[0] = adapter.0 as u64;
-    words[1] = domain.0 as u64;
+    words[MAX_ADAPTER] = adapter.0 as u64;
+    words[MAX_DOMAIN] = domain.0 as u64;
 }
 
 pub fn put_apmask(words: &mut Words, mask: Mask)
@@ -75,7 +78,7 @@ pub fn put_open(words: &mut Words, slot: usize, opened: bool)
     ensures { λ r. ⌜ now (words .exit) ≡ putOpen (now (words .entry)) slot opened ⌝ }
 {
     if slot < SLOTS {
-        words[FIRST_SLOT + slot * SLOT_WORDS + 1] = if opened { 1 } else { 0 };
+        words[FIRST_SLOT + slot * SLOT_WORDS + OPEN] = if opened { 1 } else { 0 };
     }
 }
 

@@ -14,7 +14,7 @@ ghost use Rattle.layout.specs.Lent.{host, config, state};
 ghost use Rattle.sweep.specs.Sweeps.{movesBytes, finishedBytes, Sweeps, Remains};
 
 // A larger budget is taken as this one: two moves of each queue.
-const MOST_MOVES: u32 = 131072;
+pub const MOST_MOVES: u32 = 131072;
 
 // What a sweep reports: the moves it made, and whether any remain.
 pub struct Swept {

@@ -1,11 +1,11 @@
--- `assign` meets its contract: the rule at the place of the number.
+-- `assign` meets its contract: the rule where the number goes.
 -- Assumes nothing.
 use mathlib.Core.Path.{sym, _∙_}
 use denote.Ref.{now}
 use borrow.Author.Needs.{needs}
 use Rattle.rules.specs.Commands.{assign, assignAt}
 use Rattle.assign.specs.Numbers.{assigned, assignedAt}
-use Rattle.assign.proofs.Laws.{goes, at-place, no-place, exact}
+use Rattle.assign.proofs.Laws.{goes, at-located, not-located, exact}
 use Rattle.assign.proofs.assign.Statement.{statement}
 use Rattle.assign.proofs.assign.Tie as tie
 
@@ -19,7 +19,7 @@ unfolding assign
 returns c =
     let a = c .before .before .before .before .before .before .before .before .args in
     let done =
-    at-place (a .kind) (a .id) (now (a .text)) (a .words .now) (assignAt (a .kind)) (assignedAt (a .kind))
+    at-located (a .kind) (a .id) (now (a .text)) (a .words .now) (assignAt (a .kind)) (assignedAt (a .kind))
     (sym (c .before .before .before .slot .given .1) ∙ c .before .before .before .before .before .locate .ensures) (c .assign-at .ensures) in
     record { rule = done; exactly = exact (a .kind) (a .id) (now (a .text)) (a .words .now) done }
 
@@ -28,7 +28,7 @@ unfolding assign
 returns-2 c =
     let a = c .before .before .before .before .before .before .args in
     let done =
-    no-place (a .kind) (a .id) (now (a .text)) (a .words .now) (assignAt (a .kind)) (assigned (a .kind) (a .id) (now (a .text)))
+    not-located (a .kind) (a .id) (now (a .text)) (a .words .now) (assignAt (a .kind)) (assigned (a .kind) (a .id) (now (a .text)))
     (sym (c .before .e .given .1) ∙ c .before .before .before .locate .ensures) in
     record { rule = done; exactly = exact (a .kind) (a .id) (now (a .text)) (a .words .now) done }
 

@@ -1,4 +1,4 @@
--- `locate` meets its contract: a return for each case of the place.
+-- `locate` meets its contract: a return for each case.
 -- Assumes nothing.
 use mathlib.Core.Bool.{not, Bool·not-not}
 use mathlib.Core.Path.{refl, sym, ap, _∙_}
@@ -7,8 +7,8 @@ use borrow.Author.Needs.{needs}
 use borrow.Author.Tests.{lt-ltb, le-ltb}
 use Rattle.number.specs.Text.{outcome}
 use Rattle.admit.proofs.Laws.{in-range-small}
-use Rattle.assign.specs.Numbers.{placeIn}
-use Rattle.assign.specs.declared.Place.the-variants.{At}
+use Rattle.assign.specs.Numbers.{locatedIn}
+use Rattle.assign.specs.declared.Located.the-variants.{At}
 use Rattle.assign.proofs.Laws.{by-tests}
 use Rattle.assign.proofs.locate.Statement.{statement}
 use Rattle.assign.proofs.locate.Tie as tie
@@ -45,10 +45,10 @@ returns-3 c =
     (lt-ltb _ _ (c .before .before .if1 .left)) within
 
 returns-4 : tie.Need-returns-4
-unfolding outcome placeIn
+unfolding outcome locatedIn
 returns-4 c =
     let a = c .before .before .before .before .args in
-    ap (placeIn (a .kind) (a .id) (a .words .now)) (sym (ap outcome (c .enum-told .given .1)) ∙ c .before .before .parse .ensures)
+    ap (locatedIn (a .kind) (a .id) (a .words .now)) (sym (ap outcome (c .enum-told .given .1)) ∙ c .before .before .parse .ensures)
 
 pub locate-spec : {M : Type 1} → statement M
 locate-spec =

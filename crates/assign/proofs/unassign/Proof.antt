@@ -1,11 +1,11 @@
--- `unassign` meets its contract: the rule at the place of the number.
+-- `unassign` meets its contract: the rule where the number goes.
 -- Assumes nothing.
 use mathlib.Core.Path.{sym, _∙_}
 use denote.Ref.{now}
 use borrow.Author.Needs.{needs}
 use Rattle.rules.specs.Commands.{unassign, unassignAt}
 use Rattle.assign.specs.Numbers.{unassigned, unassignedAt}
-use Rattle.assign.proofs.Laws.{goes, at-place, no-place}
+use Rattle.assign.proofs.Laws.{goes, at-located, not-located}
 use Rattle.assign.proofs.unassign.Statement.{statement}
 use Rattle.assign.proofs.unassign.Tie as tie
 
@@ -18,14 +18,14 @@ returns : tie.Need-returns
 unfolding unassign
 returns c =
     let a = c .before .before .before .before .before .before .before .before .args in
-    at-place (a .kind) (a .id) (now (a .text)) (a .words .now) (unassignAt (a .kind)) (unassignedAt (a .kind))
+    at-located (a .kind) (a .id) (now (a .text)) (a .words .now) (unassignAt (a .kind)) (unassignedAt (a .kind))
     (sym (c .before .before .before .slot .given .1) ∙ c .before .before .before .before .before .locate .ensures) (c .unassign-at .ensures)
 
 returns-2 : tie.Need-returns-2
 unfolding unassign
 returns-2 c =
     let a = c .before .before .before .before .before .before .args in
-    no-place (a .kind) (a .id) (now (a .text)) (a .words .now) (unassignAt (a .kind)) (unassigned (a .kind) (a .id) (now (a .text)))
+    not-located (a .kind) (a .id) (now (a .text)) (a .words .now) (unassignAt (a .kind)) (unassigned (a .kind) (a .id) (now (a .text)))
     (sym (c .before .e .given .1) ∙ c .before .before .before .locate .ensures)
 
 pub unassign-spec : {M : Type 1} → statement M

@@ -5,7 +5,8 @@ use native.Mathlib.Omega.{arith}
 use mathlib.Core.List.{List}
 use mathlib.Core.Path.{_≡_, refl, ap, _∙_}
 use borrow.Author.Needs.{needs}
-use Rattle.configure.specs.Configured.{dropped, unbindOne, unbindRow}
+use Rattle.configure.specs.Configured.{dropped, unbindRow}
+use Rattle.layout.specs.Layout.{unbindOne}
 use Rattle.configure.proofs.Laws.{row-next}
 use Rattle.configure.proofs.unbind_domains.Statement.{statement}
 use Rattle.configure.proofs.unbind_domains.Tie as tie
