@@ -1,6 +1,6 @@
 // Where one queue belongs, and a move towards it.
 //
-// Rests on mask, rules, layout, record and store.
+// Rests on mask, rules, layout, record and drivers.
 use layout::Drivers;
 use layout::Words;
 use mask::Apid;
@@ -48,19 +48,19 @@ pub fn move_queue(words: &Words, drivers: &mut Drivers, adapter: Apid, domain: A
 {
     layout::hold_drivers(drivers);
     let m = moved_by(
-        record::driver(drivers, adapter, domain),
+        drivers::driver(drivers, adapter, domain),
         target(words, adapter, domain),
     );
     match m {
         Moved::Idle => {}
         Moved::Released => {
-            store::put_driver(drivers, adapter, domain, Driver::Unbound);
+            drivers::put_driver(drivers, adapter, domain, Driver::Unbound);
         }
         Moved::BoundHost => {
-            store::put_driver(drivers, adapter, domain, Driver::Host);
+            drivers::put_driver(drivers, adapter, domain, Driver::Host);
         }
         Moved::BoundPassthrough => {
-            store::put_driver(drivers, adapter, domain, Driver::Passthrough);
+            drivers::put_driver(drivers, adapter, domain, Driver::Passthrough);
         }
     }
     m

@@ -1,6 +1,6 @@
 // The partition's configuration: setting it, and unbinding the queues that it takes away.
 //
-// Rests on errno, mask, limits, rules, product, layout, record and store.
+// Rests on errno, mask, limits, rules, product, layout, record, store and drivers.
 use errno::Errno;
 use layout::Drivers;
 use layout::Words;
@@ -119,5 +119,5 @@ fn unbind_dropped(drivers: &mut Drivers, adapter: Apid, was: Mask, is: Mask, dom
     if is.has_domain(domain) {
         return;
     }
-    store::put_driver(drivers, adapter, domain, Driver::Unbound);
+    drivers::put_driver(drivers, adapter, domain, Driver::Unbound);
 }

@@ -1,6 +1,6 @@
 // What a guest gets: a device's masks, and whether a queue is usable now.
 //
-// Rests on errno, mask, rules, product, layout, record and lookup.
+// Rests on errno, mask, rules, product, layout, record, drivers and lookup.
 use errno::Errno;
 use layout::Drivers;
 use layout::SLOTS;
@@ -132,7 +132,7 @@ fn row_passed(drivers: &Drivers, adapter: Apid, domains: Mask) -> bool
     while n < 256 {
         let domain = Apqi((n % 256) as u8);
         if domains.has_domain(domain) {
-            if !passed(record::driver(drivers, adapter, domain)) {
+            if !passed(drivers::driver(drivers, adapter, domain)) {
                 return false;
             }
         }

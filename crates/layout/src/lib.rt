@@ -1,5 +1,6 @@
 // The record in memory that the caller lends: how large it is and where its parts lie, with the definitions by which it is read.
-// `record` reads its parts, `store` writes them, and no other crate's code sees where one lies.
+// `record` reads its words, `store` writes them, `drivers` does both with the driver bytes; no other crate's code sees where a part
+// lies.
 //
 // Rests on errno, mask and rules.
 use rules::Kind;

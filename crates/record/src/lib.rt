@@ -1,4 +1,4 @@
-// Reads the parts of the record that the caller lends. `store` writes them.
+// Reads the words of the record that the caller lends. `store` writes them.
 //
 // Rests on mask, rules and layout.
 use layout::ADAPTERS;
@@ -6,7 +6,6 @@ use layout::APMASK;
 use layout::AQMASK;
 use layout::CONTROLS;
 use layout::DOMAINS;
-use layout::Drivers;
 use layout::FIRST_SLOT;
 use layout::ID_HI;
 use layout::ID_LO;
@@ -20,16 +19,13 @@ use layout::Words;
 use mask::Apid;
 use mask::Apqi;
 use mask::Mask;
-use rules::Driver;
 use rules::Id;
 use rules::Kind;
 ghost use mathlib.Core.Path.{_≡_};
 ghost use Prim.Native.Nat.{_+_, _<_, min};
-ghost use lib.ListN.{getD};
 ghost use Rattle.mask.specs.Bits.{bits};
-ghost use Rattle.rules.specs.State.{apqn};
 ghost use Rattle.rules.specs.Commands.{numbersOf};
-ghost use Rattle.layout.specs.Layout.{wordCount, four, driverOf};
+ghost use Rattle.layout.specs.Layout.{wordCount, four};
 ghost use Rattle.layout.specs.Lent.{limits, host, config, devices};
 
 // Four words as a mask.
@@ -139,17 +135,4 @@ pub fn numbers(words: &Words, slot: usize, kind: Kind) -> Mask
         );
     }
     Mask::empty()
-}
-
-pub fn driver(drivers: &Drivers, adapter: Apid, domain: Apqi) -> Driver
-    ensures { λ r. ⌜ r ≡ driverOf (getD (now (drivers .entry)) (apqn adapter domain) 0) ⌝ }
-{
-    let b = drivers[adapter.0 as usize * 256 + domain.0 as usize];
-    if b == 1 {
-        return Driver::Host;
-    }
-    if b == 2 {
-        return Driver::Passthrough;
-    }
-    Driver::Unbound
 }

@@ -1,6 +1,6 @@
 // A fresh record of any limits.
 //
-// Rests on errno, mask, rules, layout and store.
+// Rests on errno, mask, rules, layout, store and drivers.
 use errno::Errno;
 use layout::Drivers;
 use layout::SLOTS;
@@ -31,7 +31,7 @@ pub fn fresh(words: &mut Words, drivers: &mut Drivers, adapter: u64, domain: u64
         Apid((adapter % 256) as u8),
         Apqi((domain % 256) as u8),
     );
-    store::put_unbound(drivers);
+    drivers::put_unbound(drivers);
     Answer::Done
 }
 

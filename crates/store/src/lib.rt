@@ -1,4 +1,4 @@
-// Writes the parts of the record that the caller lends. `record` reads them.
+// Writes the words of the record that the caller lends. `record` reads them.
 //
 // Rests on mask, rules and layout.
 use layout::ADAPTERS;
@@ -6,7 +6,6 @@ use layout::APMASK;
 use layout::AQMASK;
 use layout::CONTROLS;
 use layout::DOMAINS;
-use layout::Drivers;
 use layout::FIRST_SLOT;
 use layout::MAX_ADAPTER;
 use layout::MAX_DOMAIN;
@@ -19,17 +18,14 @@ use mask::Apid;
 use mask::Apqi;
 use mask::Mask;
 use rules::Configuration;
-use rules::Driver;
 use rules::Id;
 use rules::Kind;
-use rules::QUEUES;
 ghost use mathlib.Core.Path.{_≡_};
 ghost use Prim.Native.Nat.{_+_, _<_};
 ghost use mathlib.Core.Bool.{cond};
-ghost use lib.ListN.{getD, set, replicate};
+ghost use lib.ListN.{getD};
 ghost use Rattle.mask.specs.Bits.{bits};
-ghost use Rattle.rules.specs.State.{queues, apqn};
-ghost use Rattle.layout.specs.Layout.{wordCount, byteOf, apmaskAt, aqmaskAt};
+ghost use Rattle.layout.specs.Layout.{wordCount, apmaskAt, aqmaskAt};
 ghost use Rattle.layout.specs.Layout.{putFour, putLimits, putNumbers, putOpen, putDevice, putTypes, putConfig};
 
 fn put_mask(words: &mut Words, at: usize, mask: Mask)
@@ -130,22 +126,4 @@ fn type_of(configured: bool, t: u8) -> u64
     ensures { λ r. ⌜ r ≡ cond configured t 0 ⌝ }
 {
     if configured { t as u64 } else { 0 }
-}
-
-pub fn put_driver(drivers: &mut Drivers, adapter: Apid, domain: Apqi, driver: Driver)
-    ensures { λ r. ⌜ now (drivers .exit) ≡ set (now (drivers .entry)) (apqn adapter domain) (byteOf driver) ⌝ }
-{
-    let b = match driver {
-        Driver::Unbound => 0u8,
-        Driver::Host => 1u8,
-        Driver::Passthrough => 2u8,
-    };
-    drivers[adapter.0 as usize * 256 + domain.0 as usize] = b;
-}
-
-// Unbinds every queue.
-pub fn put_unbound(drivers: &mut Drivers)
-    ensures { λ r. ⌜ now (drivers .exit) ≡ replicate queues 0 ⌝ }
-{
-    *drivers = [0u8; QUEUES];
 }

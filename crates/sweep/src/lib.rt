@@ -1,6 +1,6 @@
 // The moves remaining over all queues, and sweeps, which make them.
 //
-// Rests on mask, rules, layout, record, store and bind.
+// Rests on mask, rules, layout, drivers and bind.
 use layout::Drivers;
 use layout::Words;
 use mask::Apid;
@@ -59,7 +59,7 @@ fn need_at(words: &Words, drivers: &Drivers, queue: usize) -> Need
     let a = Apid((queue / 256 % 256) as u8);
     let d = Apqi((queue % 256) as u8);
     let t = bind::target(words, a, d);
-    let n = due_by(record::driver(drivers, a, d), t);
+    let n = due_by(drivers::driver(drivers, a, d), t);
     Need { due: n, target: t }
 }
 
@@ -136,5 +136,5 @@ fn finish(drivers: &mut Drivers, queue: usize, due: u32, target: Driver)
     if due == 0 {
         return;
     }
-    store::put_driver(drivers, adapter, domain, target);
+    drivers::put_driver(drivers, adapter, domain, target);
 }

@@ -12,9 +12,15 @@ few : (c : tie.After-mask-bits3)
     → c .before .before .before .before .mask-bits .result + c .before .before .mask-bits2 .result + c .mask-bits3 .result ≤ 768
 few c =
     let m = c .before .before .before .before .before .before .before .before .before .args .m in
-    omega
-    (arith, c .before .before .before .before .mask-bits .ensures, c .before .before .mask-bits2 .ensures, c .mask-bits3 .ensures,
-    count-le 256 (bits (m .adapters)), count-le 256 (bits (m .domains)), count-le 256 (bits (m .controls)))
+    omega (
+      arith,
+      c .before .before .before .before .mask-bits .ensures,
+      c .before .before .mask-bits2 .ensures,
+      c .mask-bits3 .ensures,
+      count-le 256 (bits (m .adapters)),
+      count-le 256 (bits (m .domains)),
+      count-le 256 (bits (m .controls)),
+    )
 
 returns : tie.Need-returns
 returns c = omega (arith, c .before .before .before .before .mask-bits .ensures, c .before .before .mask-bits2 .ensures, c .mask-bits3 .ensures)

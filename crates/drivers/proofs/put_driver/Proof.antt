@@ -6,8 +6,8 @@ use mathlib.Core.Logic.{⊎-elim}
 use lib.ListN.{set}
 use borrow.Author.Needs.{needs}
 use Rattle.layout.specs.Layout.{byteOf}
-use Rattle.store.proofs.put_driver.Statement.{statement}
-use Rattle.store.proofs.put_driver.Tie as tie
+use Rattle.drivers.proofs.put_driver.Statement.{statement}
+use Rattle.drivers.proofs.put_driver.Tie as tie
 
 returns : tie.Need-returns
 unfolding byteOf

@@ -5,8 +5,8 @@ use lib.ListN.{getD}
 use borrow.Author.Tests.{ne-eqb}
 use borrow.Author.Needs.{needs}
 use Rattle.layout.specs.Layout.{driverOf}
-use Rattle.record.proofs.driver.Statement.{statement}
-use Rattle.record.proofs.driver.Tie as tie
+use Rattle.drivers.proofs.driver.Statement.{statement}
+use Rattle.drivers.proofs.driver.Tie as tie
 
 returns-3 : tie.Need-returns-3
 unfolding driverOf
