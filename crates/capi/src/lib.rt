@@ -21,7 +21,8 @@ ghost use Rattle.assign.specs.Numbers.{Assigns, Unassigns};
 ghost use Rattle.host.specs.Masks.{withApmask, withAqmask};
 ghost use Rattle.configure.specs.Configured.{Configures};
 ghost use Rattle.bind.specs.Moves.{Moves};
-ghost use Rattle.sweep.specs.Sweeps.{Sweeps, Remains};
+ghost use Rattle.due.specs.Due.{Remains};
+ghost use Rattle.sweep.specs.Sweeps.{Sweeps};
 ghost use Rattle.guest.specs.Masks.{Shows, usableWith};
 ghost use Rattle.listing.specs.Listed.{Listing};
 ghost use Rattle.capi.specs.Numbered.{Numbered, NumberedMove, idWith, queueWith};
@@ -135,7 +136,7 @@ pub extern "C" fn zk_move(words: &Words, drivers: &mut Drivers, apid: u8, apqi: 
 pub extern "C" fn zk_remaining(words: &Words, drivers: &Drivers) -> u32
     ensures { λ r. ⌜ Remains (words .entry) (drivers .entry) r ⌝ }
 {
-    sweep::remaining(words, drivers)
+    due::remaining(words, drivers)
 }
 
 // The moves used; more is then 1 where any remain, and 0 where none does.

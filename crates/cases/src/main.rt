@@ -123,7 +123,7 @@ fn queues(words: &Words, drivers: &mut Drivers, letter: u8, s: &[u8]) {
         b'm' => moved(bind::move_queue(words, drivers, apid, apqi)),
         b't' => target(bind::target(words, apid, apqi)),
         b's' => sweep(sweep::sweep(words, drivers, (n % 4294967296) as u32)),
-        _ => number(sweep::remaining(words, drivers) as u64),
+        _ => number(due::remaining(words, drivers) as u64),
     }
 }
 

@@ -50,7 +50,7 @@ fn one(answer: u8) {
 
 // The moves remaining, and the matrices of the devices.
 fn left(words: &Words, drivers: &Drivers) {
-    print::number(b"remaining ", sweep::remaining(words, drivers) as u64);
+    print::number(b"remaining ", due::remaining(words, drivers) as u64);
     for n in 1..10u64 {
         device(words, drivers, n);
     }

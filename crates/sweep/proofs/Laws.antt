@@ -1,6 +1,6 @@
 -- The bytes that several moves and sweeps write, read as moves and sweeps of the state; a sweep by turns.
 -- Assumes nothing.
-use Prim.Native.Nat.{ℕ, zero, suc, _+_, _-_, _*_, _/_, _%_, _≤_, _<_, min}
+use Prim.Native.Nat.{ℕ, zero, suc, _+_, _-_, _≤_, _<_, min}
 use native.Mathlib.Nat.{le-refl}
 use native.Mathlib.Numerals.{add-one}
 use native.Mathlib.Omega.{arith}
@@ -15,13 +15,13 @@ use Rattle.rules.specs.declared.Driver.{Driver}
 use Rattle.rules.specs.declared.Driver.the-variants.{Unbound, Host, Passthrough}
 use Rattle.rules.specs.State.{queues}
 use Rattle.rules.specs.Queues.{targetOf, moved, due, dueAt, sumBelow, remaining, moves, mostMoves, movesUsed}
-use Rattle.rules.proofs.Products.{queue-split}
 use Rattle.rules.proofs.Sums.{sum-none, sum-more, sumFrom, sum-split}
 use Rattle.rules.proofs.Sweeps.{sweepFrom, sweep, remaining-swept, sweeping}
 use Rattle.layout.specs.Layout.{stateIn, hostIn, configIn, driverOf, byteOf}
 use Rattle.layout.proofs.Laws.{driver-of-byte}
 use Rattle.bind.specs.Moves.{bytesAfter, moveBytes}
 use Rattle.bind.proofs.Laws.{read-move, move-length, move-other, bytes-by, answer-read}
+use Rattle.due.proofs.Laws.{due-read}
 use Rattle.sweep.specs.declared.Swept.{Swept}
 use Rattle.sweep.specs.Sweeps.{movesBytes, sweepBytes, Sweeping}
 
@@ -57,16 +57,6 @@ unfolding movesBytes
 two-moves ws n qs = refl
 
 -- ---- what is due
-
--- by the queue's byte and its target
-pub due-read : (ws qs : List ℕ) (j : ℕ) → dueAt (stateIn ws qs) j ≡ due (driverOf (getD qs j 0)) (targetOf (hostIn ws) (configIn ws) j)
-unfolding dueAt stateIn
-due-read ws qs j = refl
-
-pub due-split : (ws qs : List ℕ) (k : ℕ) → k < queues
-    → due (driverOf (getD qs (k / 256 % 256 * 256 + k % 256) 0)) (targetOf (hostIn ws) (configIn ws) (k / 256 % 256 * 256 + k % 256))
-    ≡ dueAt (stateIn ws qs) k
-due-split ws qs k h = rw (queue-split k h) (sym (due-read ws qs k))
 
 -- the bytes after a move, by the driver that the queue has and its target
 step : (ws qs : List ℕ) (k : ℕ) (v t : Driver) → driverOf (getD qs k 0) ≡ v → targetOf (hostIn ws) (configIn ws) k ≡ t

@@ -10,7 +10,7 @@ use lib.ListN.{set}
 use denote.Ref.{now}
 use Rattle.rules.specs.declared.Driver.{Driver}
 use Rattle.rules.specs.State.{queues}
-use Rattle.rules.specs.Queues.{dueAt, mostMoves, Remaining}
+use Rattle.rules.specs.Queues.{dueAt, mostMoves}
 use Rattle.rules.specs.Sweeps.{Sweep}
 use Rattle.layout.specs.Layout.{stateIn, byteOf}
 use Rattle.layout.specs.Lent.{Lent}
@@ -40,6 +40,3 @@ pub record Sweeping (budget : ℕ) (ws qs rs : List ℕ) (r : Swept) : Type 0 wh
 -- the same of lent memory, at entry and at exit
 abbrev pub Sweeps : ℕ → Lent → Lent → Lent → Swept → Type 0
 Sweeps budget words drivers after r = Sweeping budget (now words) (now drivers) (now after) r
-
-abbrev pub Remains : Lent → Lent → ℕ → Type 0
-Remains words drivers r = Remaining (stateIn (now words) (now drivers)) r

@@ -1,6 +1,6 @@
-// The moves remaining over all queues, and sweeps, which make them.
+// Sweeps: moves in a row over all queues, as many as a budget allows.
 //
-// Rests on mask, rules, layout, drivers and bind.
+// Rests on mask, rules, layout, drivers, bind and due.
 use layout::Drivers;
 use layout::Words;
 use mask::Apid;
@@ -8,10 +8,8 @@ use mask::Apqi;
 use rules::Driver;
 ghost use mathlib.Core.Path.{_≡_};
 ghost use Prim.Native.Nat.{_<_, _≤_};
-ghost use Rattle.rules.specs.Queues.{targetOf, due, dueAt};
 ghost use Rattle.rules.specs.State.{queues};
-ghost use Rattle.layout.specs.Lent.{host, config, state};
-ghost use Rattle.sweep.specs.Sweeps.{movesBytes, finishedBytes, Sweeps, Remains};
+ghost use Rattle.sweep.specs.Sweeps.{movesBytes, finishedBytes, Sweeps};
 
 // A larger budget is taken as this one: two moves of each queue.
 pub const MOST_MOVES: u32 = 131072;
@@ -20,59 +18,6 @@ pub const MOST_MOVES: u32 = 131072;
 pub struct Swept {
     pub used: u32,
     pub more: bool,
-}
-
-// What a queue needs: the moves that it is from its target, and the target.
-struct Need {
-    due: u32,
-    target: Driver,
-}
-
-fn due_by(driver: Driver, target: Driver) -> u32
-    ensures { λ r. ⌜ r ≡ due driver target ⌝ }
-{
-    match driver {
-        Driver::Unbound => match target {
-            Driver::Unbound => 0,
-            Driver::Host => 1,
-            Driver::Passthrough => 1,
-        },
-        Driver::Host => match target {
-            Driver::Unbound => 1,
-            Driver::Host => 0,
-            Driver::Passthrough => 2,
-        },
-        Driver::Passthrough => match target {
-            Driver::Unbound => 1,
-            Driver::Host => 2,
-            Driver::Passthrough => 0,
-        },
-    }
-}
-
-// What the queue needs. Its target is computed once.
-fn need_at(words: &Words, drivers: &Drivers, queue: usize) -> Need
-    requires { ⌜ queue < queues ⌝ }
-    ensures due { λ r. ⌜ r .due ≡ dueAt (state (words .entry) (drivers .entry)) queue ⌝ }
-    ensures target { λ r. ⌜ r .target ≡ targetOf (host (words .entry)) (config (words .entry)) queue ⌝ }
-{
-    let a = Apid((queue / 256 % 256) as u8);
-    let d = Apqi((queue % 256) as u8);
-    let t = bind::target(words, a, d);
-    let n = due_by(drivers::driver(drivers, a, d), t);
-    Need { due: n, target: t }
-}
-
-// The moves remaining, over all queues.
-pub fn remaining(words: &Words, drivers: &Drivers) -> u32
-    ensures { λ r. ⌜ Remains (words .entry) (drivers .entry) r ⌝ }
-{
-    let mut sum: u32 = 0;
-    for queue in 0..rules::QUEUES {
-        let need = need_at(words, drivers, queue);
-        sum += need.due;
-    }
-    sum
 }
 
 // Makes as many moves as the budget allows, by ascending queue, and finishes each queue before the next.
@@ -88,7 +33,7 @@ pub fn sweep(words: &Words, drivers: &mut Drivers, budget: u32) -> Swept
     let mut left = most;
     let mut queue: usize = 0;
     while queue < rules::QUEUES {
-        let need = need_at(words, drivers, queue);
+        let need = due::need_at(words, drivers, queue);
         let n = need.due;
         let t = need.target;
         if left < n {

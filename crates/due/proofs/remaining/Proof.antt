@@ -1,6 +1,7 @@
 -- `remaining` meets its contract. The invariant: the sum is that of the queues passed.
 -- Assumes nothing.
-use Prim.Native.Nat.{ℕ, _-_, _≤_}
+use Prim.Native.Nat.{ℕ, _-_, _%_, _≤_}
+use native.Mathlib.Nat.{mod-eq-of-lt}
 use native.Mathlib.Omega.{arith}
 use mathlib.Core.Path.{_≡_, sym, ap, subst, _∙_}
 use denote.Ref.{now}
@@ -10,8 +11,8 @@ use Rattle.rules.proofs.Sums.{sum-none, sum-more, sum-le}
 use Rattle.rules.proofs.Moves.{due-two, remaining-none}
 use Rattle.layout.specs.Layout.{stateIn}
 use borrow.Author.Needs.{needs}
-use Rattle.sweep.proofs.remaining.Statement.{statement}
-use Rattle.sweep.proofs.remaining.Tie as tie
+use Rattle.due.proofs.remaining.Statement.{statement}
+use Rattle.due.proofs.remaining.Tie as tie
 
 abbrev Inv-loop : tie.InvT-loop
 Inv-loop words drivers sum₀ queue₀ sum queue = (queue ≤ queues) × (sum ≡ sumBelow queue (dueAt (stateIn words drivers)))
@@ -27,10 +28,13 @@ add-sum c =
     let a = c .before .before .before .before .args in
     let k = c .before .before .before .loop .queue in
     let s = stateIn (now (a .words)) (now (a .drivers)) in
-    omega (arith, c .before .need-at .ensures .0, due-two s k, sum-le k 2 (dueAt s) (due-two s))
+    omega (arith, c .before .need-at .ensures .0, due-two s (k % queues), sum-le k 2 (dueAt s) (due-two s))
 
 loop-again : tie.Need-loop-again Inv-loop μ-loop
-loop-again c = (search needs, rw (c .before .before .before .loop .inv .1, c .before .need-at .ensures .0, sum-more))
+loop-again c =
+    let k = c .before .before .before .loop .queue in
+    let here : k % queues ≡ k = mod-eq-of-lt (omega arith) in
+    (search needs, rw (c .before .before .before .loop .inv .1, c .before .need-at .ensures .0, here, sum-more))
 
 returns : tie.Need-returns Inv-loop μ-loop
 unfolding remaining
