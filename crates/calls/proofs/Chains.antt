@@ -8,14 +8,14 @@ use mathlib.Core.Path.{_≡_, refl, sym, ap, ap₂, subst, _∙_}
 use lib.Dec.{leb}
 use Rattle.errno.specs.declared.Errno.the-variants.{Einval}
 use Rattle.errno.specs.Errno.{numberOf}
-use Rattle.errno.specs.Outcome.{Outcome, granted, refused}
+use Rattle.errno.specs.Outcome.{granted, refused}
 use Rattle.rules.specs.declared.Answer.{Answer}
-use Rattle.rules.specs.State.{Limits, State, fresh}
+use Rattle.rules.specs.State.{Limits, fresh}
 use Rattle.rules.specs.Queues as Queues
 use Rattle.rules.specs.Commands as Commands
 use Rattle.rules.specs.Commands.{answered, errnoOf, stateAfter}
 use Rattle.layout.specs.Layout.{stateIn}
-use Rattle.layout.specs.Carried.{Memory, memory, read, Carried}
+use Rattle.layout.specs.Carried.{Memory, read, Carried}
 use Rattle.setup.specs.Fresh.{start, freshMemory}
 use Rattle.rules.specs.Sweeps.{swept, moveEach}
 use Rattle.devices.specs.Effects.{created, removed, opened, closed}

@@ -1,41 +1,13 @@
 -- What setting the configuration leaves in memory.
 -- The rules: RULES.md, "Commands".
 -- Assumes nothing.
-use Prim.Native.Nat.{ℕ, zero, suc, _+_, _*_}
-use mathlib.Core.Bool.{not, _&&_}
-use mathlib.Core.List.{List}
-use Rattle.mask.specs.declared.Mask.{Mask}
-use Rattle.mask.specs.Bits.{Bits, bits}
 use Rattle.rules.specs.declared.Answer.{Answer}
 use Rattle.rules.specs.declared.Configuration.{Configuration}
-use Rattle.rules.specs.State.{queues, apqi}
+use Rattle.rules.specs.State.{queues}
 use Rattle.rules.specs.Commands.{configure}
-use Rattle.layout.specs.Layout.{putConfig, unbindOne, unbind, takenAway}
+use Rattle.layout.specs.Layout.{putConfig, unbind, takenAway}
 use Rattle.layout.specs.Lent.{Lent}
 use Rattle.layout.specs.Carried.{Memory, memory, ObeysBoth}
-use Rattle.product.specs.declared.Product.{Product}
-use Rattle.product.specs.Meet.{queuesOf}
-
--- ---- for private functions
-
--- the queues that were in one product and are not in another
-abbrev pub gone : Product → Product → Bits
-gone was is q = queuesOf was q && not (queuesOf is q)
-
--- the domains that a product pairs with adapter a
-unfoldable pub domainsOf : Product → ℕ → Bits
-domainsOf p a d = bits (p .adapters) a && bits (p .domains) d
-
--- the queues whose domain was in one mask and is not in another
-abbrev pub dropped : Mask → Mask → Bits
-dropped was is q = bits was (apqi q) && not (bits is (apqi q))
-
--- the driver bytes with those of the first n queues of adapter a that are away cleared
-unfoldable pub unbindRow : List ℕ → Bits → ℕ → ℕ → List ℕ
-unbindRow qs away a zero = qs
-unbindRow qs away a (suc n) = unbindOne (unbindRow qs away a n) away (a * 256 + n)
-
--- ---- for setting it
 
 -- the memory with the configuration replaced, and the queues that it takes away unbound
 abbrev pub configured : Configuration → Memory → Memory

@@ -1,7 +1,7 @@
 -- The text of a mask (RULES.md, "Text"): hex digits after 0x, or a list of items that are worked on the old mask.
 -- Assumes nothing.
 use Prim.Native.Nat.{ℕ}
-use mathlib.Core.Bool.{Bool, true, false, cond, _&&_}
+use mathlib.Core.Bool.{Bool, true, cond, _&&_}
 use mathlib.Core.List.{List, [], _∷_, map}
 use lib.ListN.{length, drop}
 use lib.Dec.{eqb, ltb, leb}

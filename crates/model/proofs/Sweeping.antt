@@ -12,7 +12,7 @@ use Rattle.rules.specs.Queues.{dueAt, moves, mostMoves}
 use Rattle.rules.specs.Queues as Queues
 use Rattle.rules.specs.Commands.{errnoOf, stateAfter}
 use Rattle.rules.specs.Sweeps.{sweptFrom, swept, moveEach}
-use Rattle.model.specs.Steps.{Step, Command, command, move, queueOf, rule, after, afterAll, answers}
+use Rattle.model.specs.Steps.{Step, command, move, queueOf, rule, after, afterAll, answers}
 use Rattle.model.specs.Sweeps.{sweepSteps}
 
 -- ---- one list after another

@@ -10,7 +10,7 @@ use lib.Dec.{leb}
 use lib.ListN.{length, getD, set, take, drop, length-set, length-drop, take-append-drop}
 use lib.Seq.{append-snoc, length-take-le, take-all, take-suc-set, drop-set-lt, drop-drop}
 use borrow.Author.Tests.{leb-true, le-leb}
-use Rattle.errno.specs.Outcome.{Outcome, granted, refused}
+use Rattle.errno.specs.Outcome.{granted, refused}
 use Rattle.errno.specs.declared.Errno.the-variants.{Einval}
 use Rattle.rules.specs.declared.Answer.{Answer}
 use Rattle.rules.specs.State.{Limits, State, fresh}

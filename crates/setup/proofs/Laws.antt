@@ -6,7 +6,7 @@ use mathlib.Core.Logic.{_⊎_, inl, inr}
 use mathlib.Core.Path.{_≡_, ap, ap₂, _∙_}
 use lib.Dec.{leb}
 use borrow.Author.Tests.{le-leb, lt-leb}
-use Rattle.errno.specs.Outcome.{Outcome, granted, refused}
+use Rattle.errno.specs.Outcome.{granted, refused}
 use Rattle.errno.specs.declared.Errno.the-variants.{Einval}
 use Rattle.rules.specs.declared.Answer.the-variants.{Done, Refused}
 use Rattle.rules.specs.State.{State, fresh}

@@ -2,7 +2,7 @@
 -- Assumes nothing.
 use mathlib.Core.Path.{sym, ap, ap₂, _∙_}
 use borrow.Author.Needs.{needs}
-use Rattle.mask.specs.Bits.{included, noBits}
+use Rattle.mask.specs.Bits.{noBits}
 use Rattle.rules.specs.State.{inProduct}
 use Rattle.rules.specs.declared.Kind.{Kind}
 use Rattle.rules.specs.Commands.{numbersOf, paired}

@@ -1,12 +1,11 @@
 -- `assign_at` meets its contract: a return for each case of the rule.
 -- Assumes nothing.
 use Prim.Native.Nat.{ℕ}
-use mathlib.Core.Path.{_≡_, sym, ap, _∙_}
+use mathlib.Core.Path.{sym, ap, _∙_}
 use mathlib.Core.List.{List}
 use borrow.Author.Needs.{needs}
 use Rattle.mask.specs.Bits.{Bits, included}
 use Rattle.mask.proofs.Laws.{mask-words}
-use Rattle.rules.specs.declared.Answer.{Answer}
 use Rattle.rules.specs.Commands.{assignAt, numbersOf, withDevice, withNumbers}
 use Rattle.layout.specs.Layout.{deviceIn, stateIn}
 use Rattle.layout.proofs.Laws.{refused-carried, done-carried}

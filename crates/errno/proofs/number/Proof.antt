@@ -1,8 +1,7 @@
 -- `number` meets its contract, by the table's rule.
 -- Assumes nothing.
 use native.Mathlib.Omega.{arith}
-use mathlib.Core.Path.{ap, _∙_}
-use lib.ListN.{getD}
+use mathlib.Core.Path.{ap}
 use borrow.Author.Needs.{needs}
 use Rattle.errno.specs.Ascii.{ascii}
 use Rattle.errno.specs.Errno.{numberOf, nameOf, cases}

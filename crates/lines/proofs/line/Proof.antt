@@ -1,6 +1,5 @@
 -- `line` meets its contract: its four hex digits are those of the two numbers.
 -- Assumes nothing.
-use mathlib.Core.Path.{sym}
 use borrow.Author.Needs.{needs}
 use Rattle.lines.specs.Lines.{lineOf}
 use Rattle.lines.proofs.line.Statement.{statement}

@@ -6,8 +6,6 @@ use native.Mathlib.Nat.{mod-eq-of-lt}
 use mathlib.Core.Logic.{inl, inr}
 use mathlib.Core.Path.{ap₂, _∙_}
 use borrow.Author.Needs.{needs}
-use mathlib.Core.List.{List}
-use Prim.Native.Nat.{ℕ}
 use Rattle.layout.specs.Layout.{freshWords}
 use Rattle.layout.specs.Carried.{memory}
 use Rattle.setup.proofs.Laws.{refuses, makes}

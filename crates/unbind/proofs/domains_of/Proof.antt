@@ -5,9 +5,9 @@ use mathlib.Core.Path.{sym, _∙_}
 use borrow.Author.Tests.{not-true, not-false}
 use borrow.Author.Needs.{needs}
 use Rattle.mask.specs.Bits.{noBits}
-use Rattle.configure.proofs.Laws.{paired-with}
-use Rattle.configure.proofs.domains_of.Statement.{statement}
-use Rattle.configure.proofs.domains_of.Tie as tie
+use Rattle.unbind.proofs.Laws.{paired-with}
+use Rattle.unbind.proofs.domains_of.Statement.{statement}
+use Rattle.unbind.proofs.domains_of.Tie as tie
 
 returns : tie.Need-returns
 unfolding noBits

@@ -5,11 +5,11 @@ use native.Mathlib.Omega.{arith}
 use mathlib.Core.List.{List}
 use mathlib.Core.Path.{_≡_, refl, ap, _∙_}
 use borrow.Author.Needs.{needs}
-use Rattle.configure.specs.Configured.{dropped, unbindRow}
+use Rattle.unbind.specs.Gone.{dropped, unbindRow}
 use Rattle.layout.specs.Layout.{unbindOne}
-use Rattle.configure.proofs.Laws.{row-next}
-use Rattle.configure.proofs.unbind_domains.Statement.{statement}
-use Rattle.configure.proofs.unbind_domains.Tie as tie
+use Rattle.unbind.proofs.Laws.{row-next}
+use Rattle.unbind.proofs.unbind_domains.Statement.{statement}
+use Rattle.unbind.proofs.unbind_domains.Tie as tie
 
 abbrev Inv-loop : tie.InvT-loop
 Inv-loop drivers₀ adapter was is domain₀ drivers domain = (domain ≤ 256) × (drivers ≡ unbindRow drivers₀ (dropped was is) (adapter .0) domain)

@@ -7,10 +7,10 @@ use mathlib.Core.Path.{_≡_, refl, ap, _∙_}
 use borrow.Author.Needs.{needs}
 use Rattle.rules.specs.State.{queues}
 use Rattle.layout.specs.Layout.{unbind}
-use Rattle.configure.specs.Configured.{gone, unbindRow}
-use Rattle.configure.proofs.Laws.{unbind-next}
-use Rattle.configure.proofs.unbind.Statement.{statement}
-use Rattle.configure.proofs.unbind.Tie as tie
+use Rattle.unbind.specs.Gone.{gone, unbindRow}
+use Rattle.unbind.proofs.Laws.{unbind-next}
+use Rattle.unbind.proofs.unbind.Statement.{statement}
+use Rattle.unbind.proofs.unbind.Tie as tie
 
 abbrev Inv-loop : tie.InvT-loop
 Inv-loop drivers₀ was is adapter₀ drivers adapter = (adapter ≤ 256) × (drivers ≡ unbind drivers₀ (gone was is) (adapter * 256))

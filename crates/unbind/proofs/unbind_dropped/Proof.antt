@@ -6,9 +6,9 @@ use mathlib.Core.Path.{refl, sym, _∙_}
 use borrow.Author.Tests.{not-true, not-false}
 use borrow.Author.Needs.{needs}
 use Rattle.layout.specs.Layout.{byteOf}
-use Rattle.configure.proofs.Laws.{by-tests}
-use Rattle.configure.proofs.unbind_dropped.Statement.{statement}
-use Rattle.configure.proofs.unbind_dropped.Tie as tie
+use Rattle.unbind.proofs.Laws.{by-tests}
+use Rattle.unbind.proofs.unbind_dropped.Statement.{statement}
+use Rattle.unbind.proofs.unbind_dropped.Tie as tie
 
 returns : tie.Need-returns
 returns c =

@@ -3,9 +3,9 @@
 use mathlib.Core.Path.{sym, _∙_}
 use borrow.Author.Tests.{not-true, not-false}
 use borrow.Author.Needs.{needs}
-use Rattle.configure.proofs.Laws.{row-none, row-some}
-use Rattle.configure.proofs.unbind_row.Statement.{statement}
-use Rattle.configure.proofs.unbind_row.Tie as tie
+use Rattle.unbind.proofs.Laws.{row-none, row-some}
+use Rattle.unbind.proofs.unbind_row.Statement.{statement}
+use Rattle.unbind.proofs.unbind_row.Tie as tie
 
 returns : tie.Need-returns
 returns c =
