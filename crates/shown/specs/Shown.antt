@@ -3,18 +3,13 @@
 -- Assumes nothing.
 use Prim.Native.Nat.{ℕ}
 use mathlib.Core.Bool.{Bool, cond}
-use mathlib.Core.List.{List, _++_}
 use mathlib.Core.Path.{_≡_}
 use lib.Dec.{eqb}
 use denote.Ref.{RefT, now}
-use Rattle.mask.specs.Bits.{Bits, bits, numbers}
-use Rattle.rules.specs.declared.Masks.{Masks}
 use Rattle.rules.specs.declared.Matrix.{Matrix}
 use Rattle.rules.specs.declared.Matrix.the-variants.{Assigned, Guest}
 use Rattle.rules.specs.Commands.{answered}
-use Rattle.layout.specs.Lent.{Lent}
 use Rattle.sweep.specs.declared.Swept.{Swept}
-use Rattle.guest.specs.declared.Shown.{Shown}
 use Rattle.listing.specs.declared.Listed.{Listed}
 
 -- a flag
@@ -38,25 +33,6 @@ pub record SweepLeft (promise : Swept → Type 0) (more r : ℕ) : Type 0 where
 
 abbrev pub SweepShown : (Swept → Type 0) → LentNumber → ℕ → Type 0
 SweepShown promise more r = SweepLeft promise (now more) r
-
--- a mask as 32 bytes in mask order
-unfoldable pub maskBytes : Bits → List ℕ
-maskBytes m = numbers 8 32 m 0
-
--- three masks, 96 bytes
-abbrev pub masksBytes : Masks → List ℕ
-masksBytes m = maskBytes (bits (m .adapters)) ++ (maskBytes (bits (m .domains)) ++ maskBytes (bits (m .controls)))
-
--- masks: r is the answer's errno value, and the buffer holds the masks, or what it held
-pub record MasksLeft (promise : Shown → Type 0) (before after : List ℕ) (r : ℕ) : Type 0 where
-  pub shown : Shown
-  pub kept : promise shown
-  pub answer : r ≡ answered (shown .answer)
-  pub accepted : r ≡ 0 → after ≡ masksBytes (shown .masks)
-  pub refused : (r ≡ 0 → ⊥) → after ≡ before
-
-abbrev pub MasksShown : (Shown → Type 0) → Lent → Lent → ℕ → Type 0
-MasksShown promise entry exit r = MasksLeft promise (now entry) (now exit) r
 
 -- a listing: r is the answer's errno value, and the two numbers are those of the listing, or what they were
 pub record ListLeft (promise : Listed → Type 0) (written written′ next next′ r : ℕ) : Type 0 where

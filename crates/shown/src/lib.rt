@@ -3,26 +3,16 @@
 // Rests on mask, maskbytes, rules, layout, sweep, guest and listing.
 use layout::Drivers;
 use layout::Words;
-use mask::Mask;
 use rules::Id;
-use rules::Masks;
 use rules::Matrix;
 ghost use mathlib.Core.Path.{_≡_};
 ghost use mathlib.Core.Bool.{cond};
-ghost use Prim.Native.Nat.{_+_, _≤_};
-ghost use lib.ListN.{length};
-ghost use lib.Seq.{paste};
 ghost use lib.Dec.{eqb};
-ghost use Rattle.mask.specs.Bits.{bits};
 ghost use Rattle.layout.specs.Lent.{state};
 ghost use Rattle.sweep.specs.Sweeps.{Sweeps};
-ghost use Rattle.guest.specs.Masks.{Shows};
 ghost use Rattle.listing.specs.Listed.{Listing};
-ghost use Rattle.shown.specs.Shown.{bit, matrixOf, maskBytes, masksBytes};
-ghost use Rattle.shown.specs.Shown.{SweepShown, MasksShown, ListShown};
-
-// The bytes of three masks.
-pub const MASKS_BYTES: usize = 96;
+ghost use Rattle.shown.specs.Shown.{bit, matrixOf};
+ghost use Rattle.shown.specs.Shown.{SweepShown, ListShown};
 
 // Makes a sweep and answers the moves used; more is then 1 where any remain, and 0 where none does.
 pub fn sweep(words: &Words, drivers: &mut Drivers, budget: u32, more: &mut u8) -> u32
@@ -31,27 +21,6 @@ pub fn sweep(words: &Words, drivers: &mut Drivers, budget: u32, more: &mut u8) -
     let r = sweep::sweep(words, drivers, budget);
     *more = flag(r.more);
     r.used
-}
-
-// The adapters, domains and control domains of a matrix.
-pub fn masks(
-    words: &Words,
-    drivers: &Drivers,
-    id: Id,
-    matrix: Matrix,
-    out: &mut [u8; MASKS_BYTES],
-) -> u8
-    ensures { λ r. ⌜ MasksShown (Shows (state (words .entry) (drivers .entry)) id matrix) (out .entry) (out .exit) r ⌝ }
-{
-    let shown = guest::masks(words, drivers, id, matrix);
-    let answer = shown.answer;
-    let e = rules::answer_number(answer);
-    if 0 < e {
-        return e;
-    }
-    let m = shown.masks;
-    put_masks(m, out);
-    e
 }
 
 // Writes lines from a place on; the bytes written and the next place are left behind the last two references.
@@ -99,30 +68,5 @@ fn leave(errno: u8, number: usize, out: &mut usize)
 {
     if errno == 0 {
         *out = number;
-    }
-}
-
-// Three masks, one after the other.
-fn put_masks(masks: Masks, out: &mut [u8; MASKS_BYTES])
-    ensures { λ r. ⌜ now (out .exit) ≡ masksBytes masks ⌝ }
-{
-    let adapters = masks.adapters;
-    let domains = masks.domains;
-    let controls = masks.controls;
-    put_mask(adapters, out, 0);
-    put_mask(domains, out, 32);
-    put_mask(controls, out, 64);
-}
-
-// The bytes of a mask, from an index on.
-fn put_mask(mask: Mask, out: &mut [u8], at: usize)
-    requires { ⌜ at + 32 ≤ length (now out) ⌝ }
-    ensures { λ r. ⌜ now (out .exit) ≡ paste (now (out .entry)) at (maskBytes (bits mask)) 32 ⌝ }
-{
-    let b = maskbytes::to_bytes(mask);
-    let mut i = 0usize;
-    while i < 32 {
-        out[at + i] = b[i];
-        i += 1;
     }
 }
