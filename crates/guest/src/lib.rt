@@ -1,6 +1,6 @@
 // What a guest gets: a device's masks, and whether a queue is usable now.
 //
-// Rests on errno, mask, rules, product, layout, record, drivers and lookup.
+// Rests on mask, errno, masks, rules, layout, product, record, drivers and lookup.
 use errno::Errno;
 use layout::Drivers;
 use layout::SLOTS;
@@ -70,12 +70,12 @@ pub fn masks_at(words: &Words, drivers: &Drivers, slot: usize, matrix: Matrix) -
             controls: controls,
         },
         Matrix::Guest => {
-            let there = adapters.and(record::configured_adapters(words));
-            let kept = domains.and(record::configured_domains(words));
+            let there = masks::and(adapters, record::configured_adapters(words));
+            let kept = masks::and(domains, record::configured_domains(words));
             Masks {
                 adapters: passed_adapters(drivers, there, kept),
                 domains: kept,
-                controls: controls.and(record::configured_controls(words)),
+                controls: masks::and(controls, record::configured_controls(words)),
             }
         }
     }

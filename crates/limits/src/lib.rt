@@ -1,6 +1,6 @@
 // Masks against limits: whether a bit above the highest number is set.
 //
-// Rests on mask.
+// Rests on mask and masks.
 use mask::Apid;
 use mask::Apqi;
 use mask::Mask;
@@ -27,7 +27,7 @@ pub fn exceeds_domain(mask: Mask, limit: Apqi) -> bool
 fn exceeds(mask: Mask, limit: u8) -> bool
     ensures { λ r. ⌜ r ≡ someBelow 256 (both (bits mask) (bitsAbove limit)) ⌝ }
 {
-    mask.meets(beyond(limit))
+    masks::meets(mask, beyond(limit))
 }
 
 // The bits above a limit.

@@ -1,6 +1,6 @@
 // Lists a device's matrix as text, part by part.
 //
-// Rests on errno, mask, rules, product, lines, layout, lookup and guest.
+// Rests on mask, errno, masks, rules, layout, product, lines, lookup and guest.
 use errno::Errno;
 use layout::Drivers;
 use layout::SLOTS;
@@ -67,7 +67,7 @@ pub fn lines(masks: Masks) -> u32
 {
     let adapters = masks.adapters;
     let domains = masks.domains;
-    adapters.count() * domains.count()
+    masks::count(adapters) * masks::count(domains)
 }
 
 fn refused(errno: Errno, place: usize) -> Listed

@@ -3,7 +3,6 @@
 // Rests on nothing. Bit 0 is the most significant bit of the first word.
 ghost use mathlib.Core.Path.{_≡_};
 ghost use Rattle.mask.specs.Bits.{bits, noBits, allBits, included, excluded};
-ghost use Rattle.mask.specs.Bits.{both, either, someBelow, countBelow};
 
 // An adapter number. It is a kind of its own, so that no call can take a domain number for it.
 pub struct Apid(pub u8);
@@ -70,51 +69,5 @@ impl Mask {
         let x = w[k];
         w[k] = x ^ (x & (1u64 << (63 - (i % 64) as u32)));
         Mask { words: w }
-    }
-
-    pub fn and(self, other: Mask) -> Mask
-        ensures { λ r. ⌜ bits r ≡ both (bits self) (bits other) ⌝ }
-    {
-        let x = self.words;
-        let y = other.words;
-        Mask {
-            words: [x[0] & y[0], x[1] & y[1], x[2] & y[2], x[3] & y[3]],
-        }
-    }
-
-    pub fn or(self, other: Mask) -> Mask
-        ensures { λ r. ⌜ bits r ≡ either (bits self) (bits other) ⌝ }
-    {
-        let x = self.words;
-        let y = other.words;
-        Mask {
-            words: [x[0] | y[0], x[1] | y[1], x[2] | y[2], x[3] | y[3]],
-        }
-    }
-
-    // Whether any bit is set.
-    pub fn any(self) -> bool
-        ensures { λ r. ⌜ r ≡ someBelow 256 (bits self) ⌝ }
-    {
-        let x = self.words;
-        (x[0] | x[1] | x[2] | x[3]) != 0
-    }
-
-    // Whether some bit is in both.
-    pub fn meets(self, other: Mask) -> bool
-        ensures { λ r. ⌜ r ≡ someBelow 256 (both (bits self) (bits other)) ⌝ }
-    {
-        self.and(other).any()
-    }
-
-    // How many bits are set.
-    pub fn count(self) -> u32
-        ensures { λ r. ⌜ r ≡ countBelow 256 (bits self) ⌝ }
-    {
-        let x = self.words;
-        u64::count_ones(x[0])
-            + u64::count_ones(x[1])
-            + u64::count_ones(x[2])
-            + u64::count_ones(x[3])
     }
 }

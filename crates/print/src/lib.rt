@@ -1,7 +1,7 @@
 // What the programs print with. All of it goes to standard output, and no contract can say what arrives there: those
 // here say how much was handed over, or what it was made from.
 //
-// Rests on errno, mask and rules, and on the kit's io.
+// Rests on errno, mask, masks and rules, and on the kit's io.
 use errno::Errno;
 use mask::Mask;
 use rules::Answer;
@@ -127,7 +127,7 @@ pub fn mask_bits(label: &[u8], m: Mask) -> u32
         i += 1;
     }
     text(b"\n");
-    m.count()
+    masks::count(m)
 }
 
 fn bit(m: Mask, i: u8) {

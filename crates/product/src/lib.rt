@@ -1,6 +1,6 @@
 // A product of adapters and domains: the queues whose adapter and whose domain are both in it.
 //
-// Rests on mask and rules.
+// Rests on mask, masks and rules.
 use mask::Apid;
 use mask::Apqi;
 use mask::Mask;
@@ -31,11 +31,11 @@ impl Product {
     {
         let adapters = self.adapters;
         let other_adapters = other.adapters;
-        if !adapters.meets(other_adapters) {
+        if !masks::meets(adapters, other_adapters) {
             return false;
         }
         let domains = self.domains;
         let other_domains = other.domains;
-        domains.meets(other_domains)
+        masks::meets(domains, other_domains)
     }
 }

@@ -1,6 +1,6 @@
 // What a caller in C is shown: answers with what they leave behind references. A refused call leaves what was there.
 //
-// Rests on mask, maskbytes, rules, layout, sweep, guest and listing.
+// Rests on rules, layout, sweep and listing.
 use layout::Drivers;
 use layout::Words;
 use rules::Id;
