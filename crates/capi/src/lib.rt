@@ -1,14 +1,14 @@
 // The C interface: include/zokormendu.h has the declarations. Each function takes its arguments apart and calls the
 // library's function for it.
 //
-// Rests on mask, fields, rules, layout, names, matrices, shown and the crates whose functions it exports.
+// Rests on mask, fields, rules, layout, names, matrixbytes, shown and the crates whose functions it exports.
 use errno::NAME_BYTES;
 use fields::CONFIGURATION_BYTES;
 use layout::Drivers;
 use layout::Words;
 use mask::Apid;
 use mask::Apqi;
-use matrices::MASKS_BYTES;
+use matrixbytes::MASKS_BYTES;
 use rules::Id;
 ghost use mathlib.Core.Path.{_≡_};
 ghost use Rattle.fields.specs.Fields.{kindOf, configurationOf};
@@ -27,7 +27,7 @@ ghost use Rattle.guest.specs.Masks.{Shows, usableWith};
 ghost use Rattle.listing.specs.Listed.{Listing};
 ghost use Rattle.capi.specs.Numbered.{Numbered, NumberedMove, idWith, queueWith};
 ghost use Rattle.names.specs.Names.{NameShown};
-ghost use Rattle.matrices.specs.Matrices.{MasksShown};
+ghost use Rattle.matrixbytes.specs.Matrices.{MasksShown};
 ghost use Rattle.shown.specs.Shown.{bit, matrixOf, SweepShown, ListShown};
 
 // Makes the lent memory a fresh record.
@@ -182,7 +182,7 @@ pub extern "C" fn zk_masks(
     ensures { λ r. ⌜ MasksShown (Shows (state (words .entry) (drivers .entry)) (idWith hi lo) (matrixOf matrix))
         (out .entry) (out .exit) r ⌝ }
 {
-    matrices::masks(
+    matrixbytes::masks(
         words,
         drivers,
         Id { hi: hi, lo: lo },

@@ -6,21 +6,15 @@ use mathlib.Core.Path.{_≡_}
 use lib.Dec.{ltb}
 use Rattle.errno.specs.Errno.{numberOf}
 use Rattle.errno.specs.declared.Errno.the-variants.{Enoent}
-use Rattle.mask.specs.Bits.{Bits, bits}
+use Rattle.mask.specs.Bits.{Bits}
 use Rattle.rules.specs.declared.Id.{Id}
-use Rattle.rules.specs.declared.Masks.{Masks}
 use Rattle.rules.specs.declared.Matrix.{Matrix}
-use Rattle.rules.specs.State.{State, Device, slots}
-use Rattle.rules.specs.Queues.{matrixAdapters, matrixDomains, matrixControls, usable}
+use Rattle.rules.specs.State.{State, slots}
+use Rattle.rules.specs.Queues.{usable}
 use Rattle.rules.specs.Commands.{answered, slotOf}
 use Rattle.layout.specs.Lent.{deviceWith}
+use Rattle.matrix.specs.HasMasks.{HasMasks}
 use Rattle.guest.specs.declared.Shown.{Shown}
-
--- the masks of a device's matrix
-pub record HasMasks (w : Matrix) (s : State) (v : Device) (m : Masks) : Type 0 where
-  pub adapters : bits (m .adapters) ≡ matrixAdapters w s v
-  pub domains : bits (m .domains) ≡ matrixDomains w s v
-  pub controls : bits (m .controls) ≡ matrixControls w s v
 
 -- the answer for an id, and the masks of its device, which are empty where there is none
 pub record Shows (s : State) (i : Id) (w : Matrix) (r : Shown) : Type 0 where

@@ -19,7 +19,7 @@ use Rattle.rules.specs.State.{State, slots, inProduct}
 use Rattle.rules.specs.Commands.{answered, slotOf}
 use Rattle.rules.proofs.Products.{in-product}
 use Rattle.layout.specs.Layout.{stateIn, deviceIn}
-use Rattle.guest.specs.Masks.{HasMasks}
+use Rattle.matrix.specs.HasMasks.{HasMasks}
 use Rattle.lines.specs.Lines.{lineSize, queuesAt}
 use Rattle.lines.specs.Written.{Written}
 use Rattle.lines.proofs.Laws.{count-queues}

@@ -1,6 +1,6 @@
 // Lists a device's matrix as text, part by part.
 //
-// Rests on mask, errno, masks, rules, layout, product, lines, lookup and guest.
+// Rests on mask, errno, masks, rules, layout, product, lines, lookup and matrix.
 use errno::Errno;
 use layout::Drivers;
 use layout::SLOTS;
@@ -46,7 +46,7 @@ pub fn list(
     if buf.len() < LINE {
         return refused(Errno::Enospc, place);
     }
-    let m = guest::masks_at(words, drivers, slot, matrix);
+    let m = matrix::masks_at(words, drivers, slot, matrix);
     let adapters = m.adapters;
     let domains = m.domains;
     let product = Product {

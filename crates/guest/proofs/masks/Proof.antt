@@ -9,7 +9,7 @@ use Rattle.errno.specs.Errno.{numberOf}
 use Rattle.errno.specs.declared.Errno.the-variants.{Enoent}
 use Rattle.rules.specs.State.{slots}
 use Rattle.layout.specs.Layout.{stateIn, deviceIn}
-use Rattle.guest.specs.Masks.{HasMasks}
+use Rattle.matrix.specs.HasMasks.{HasMasks}
 use Rattle.guest.proofs.masks.Statement.{statement}
 use Rattle.guest.proofs.masks.Tie as tie
 

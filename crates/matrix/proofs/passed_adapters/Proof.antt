@@ -10,10 +10,10 @@ use borrow.Author.Needs.{needs}
 use borrow.Author.Tests.{le-ltb}
 use Rattle.mask.specs.Bits.{Bits, bits}
 use Rattle.mask.proofs.Laws.{past-end, mask-words}
-use Rattle.guest.specs.Row.{heldBack}
-use Rattle.guest.proofs.Laws.{next-look, all-looked}
-use Rattle.guest.proofs.passed_adapters.Statement.{statement}
-use Rattle.guest.proofs.passed_adapters.Tie as tie
+use Rattle.matrix.specs.Row.{heldBack}
+use Rattle.matrix.proofs.Laws.{next-look, all-looked}
+use Rattle.matrix.proofs.passed_adapters.Statement.{statement}
+use Rattle.matrix.proofs.passed_adapters.Tie as tie
 
 abbrev Inv-loop : tie.InvT-loop
 Inv-loop drivers domains m₀ n₀ m n = (n ≤ 256) × ((j : ℕ) → bits m j ≡ (bits m₀ j && not (ltb j n && heldBack drivers (bits domains) j)))

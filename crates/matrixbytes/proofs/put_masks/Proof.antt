@@ -7,11 +7,11 @@ use mathlib.Core.Path.{_≡_, ap, _∙_}
 use lib.ListN.{length}
 use lib.Seq.{paste}
 use Rattle.mask.specs.Bits.{bits}
-use Rattle.matrices.specs.Matrices.{maskBytes}
-use Rattle.matrices.proofs.Laws.{mask-long, three-pasted}
+use Rattle.matrixbytes.specs.Matrices.{maskBytes}
+use Rattle.matrixbytes.proofs.Laws.{mask-long, three-pasted}
 use borrow.Author.Needs.{needs}
-use Rattle.matrices.proofs.put_masks.Statement.{statement}
-use Rattle.matrices.proofs.put_masks.Tie as tie
+use Rattle.matrixbytes.proofs.put_masks.Statement.{statement}
+use Rattle.matrixbytes.proofs.put_masks.Tie as tie
 
 returns : tie.Need-returns
 returns c =

@@ -14,7 +14,7 @@ ghost use lib.Seq.{paste};
 ghost use Rattle.mask.specs.Bits.{bits};
 ghost use Rattle.layout.specs.Lent.{state};
 ghost use Rattle.guest.specs.Masks.{Shows};
-ghost use Rattle.matrices.specs.Matrices.{maskBytes, masksBytes, MasksShown};
+ghost use Rattle.matrixbytes.specs.Matrices.{maskBytes, masksBytes, MasksShown};
 
 // The bytes of three masks.
 pub const MASKS_BYTES: usize = 96;

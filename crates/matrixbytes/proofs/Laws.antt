@@ -8,7 +8,7 @@ use lib.ListN.{length, drop, length-append}
 use lib.Seq.{paste, take-at, take-all, drop-drop, drop-length, drop-append-add}
 use Rattle.mask.specs.Bits.{Bits}
 use Rattle.mask.proofs.Laws.{numbers-words}
-use Rattle.matrices.specs.Matrices.{maskBytes}
+use Rattle.matrixbytes.specs.Matrices.{maskBytes}
 
 -- the bytes of a mask are 32
 pub mask-long : (m : Bits) → length (maskBytes m) ≡ 32

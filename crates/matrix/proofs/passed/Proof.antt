@@ -3,8 +3,8 @@
 use mathlib.Core.Path.{sym, ap}
 use borrow.Author.Needs.{needs}
 use Rattle.rules.specs.Queues.{passed}
-use Rattle.guest.proofs.passed.Statement.{statement}
-use Rattle.guest.proofs.passed.Tie as tie
+use Rattle.matrix.proofs.passed.Statement.{statement}
+use Rattle.matrix.proofs.passed.Tie as tie
 
 returns : tie.Need-returns
 unfolding passed

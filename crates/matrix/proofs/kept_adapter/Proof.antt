@@ -5,10 +5,10 @@ use mathlib.Core.Bool.{Bool, true, false, _&&_, and-false}
 use borrow.Author.Needs.{needs}
 use borrow.Author.Tests.{not-true, not-false}
 use Rattle.mask.specs.Bits.{bits, excluded}
-use Rattle.guest.specs.Row.{heldBack}
-use Rattle.guest.proofs.Laws.{not-there, dropped}
-use Rattle.guest.proofs.kept_adapter.Statement.{statement}
-use Rattle.guest.proofs.kept_adapter.Tie as tie
+use Rattle.matrix.specs.Row.{heldBack}
+use Rattle.matrix.proofs.Laws.{not-there, dropped}
+use Rattle.matrix.proofs.kept_adapter.Statement.{statement}
+use Rattle.matrix.proofs.kept_adapter.Tie as tie
 
 returns : tie.Need-returns
 unfolding excluded

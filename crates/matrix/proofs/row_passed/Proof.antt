@@ -12,10 +12,10 @@ use borrow.Author.Tests.{not-true, not-false}
 use Rattle.mask.specs.Bits.{bits}
 use Rattle.mask.proofs.Laws.{some-intro, none-some}
 use Rattle.rules.specs.Queues.{passed}
-use Rattle.guest.specs.Row.{missing, heldBack}
-use Rattle.guest.proofs.Laws.{missing-at}
-use Rattle.guest.proofs.row_passed.Statement.{statement}
-use Rattle.guest.proofs.row_passed.Tie as tie
+use Rattle.matrix.specs.Row.{missing, heldBack}
+use Rattle.matrix.proofs.Laws.{missing-at}
+use Rattle.matrix.proofs.row_passed.Statement.{statement}
+use Rattle.matrix.proofs.row_passed.Tie as tie
 
 abbrev Inv-loop : tie.InvT-loop
 Inv-loop drivers adapter domains n₀ n = (n ≤ 256) × ((k : ℕ) → k < n → missing drivers (bits domains) (adapter .0) k ≡ false)

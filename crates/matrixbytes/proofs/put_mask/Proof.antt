@@ -8,10 +8,10 @@ use lib.ListN.{length}
 use lib.Seq.{paste, paste-zero, paste-suc}
 use borrow.Author.Needs.{needs}
 use Rattle.mask.specs.Bits.{bits}
-use Rattle.matrices.specs.Matrices.{maskBytes}
-use Rattle.matrices.proofs.Laws.{mask-long}
-use Rattle.matrices.proofs.put_mask.Statement.{statement}
-use Rattle.matrices.proofs.put_mask.Tie as tie
+use Rattle.matrixbytes.specs.Matrices.{maskBytes}
+use Rattle.matrixbytes.proofs.Laws.{mask-long}
+use Rattle.matrixbytes.proofs.put_mask.Statement.{statement}
+use Rattle.matrixbytes.proofs.put_mask.Tie as tie
 
 abbrev Inv-loop : tie.InvT-loop
 Inv-loop out₀ at b i₀ out i = (i ≤ 32) × (length out ≡ length out₀) × (out ≡ paste out₀ at b i)

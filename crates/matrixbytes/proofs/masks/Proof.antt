@@ -3,8 +3,8 @@
 use native.Mathlib.Omega.{arith}
 use mathlib.Core.Path.{refl}
 use borrow.Author.Needs.{needs}
-use Rattle.matrices.proofs.masks.Statement.{statement}
-use Rattle.matrices.proofs.masks.Tie as tie
+use Rattle.matrixbytes.proofs.masks.Statement.{statement}
+use Rattle.matrixbytes.proofs.masks.Tie as tie
 
 returns : tie.Need-returns
 returns c =

@@ -7,9 +7,9 @@ use Rattle.rules.specs.declared.Matrix.{Matrix}
 use Rattle.rules.specs.Commands.{numbersOf}
 use Rattle.rules.specs.Queues.{guestDomains, guestControls, matrixAdapters, matrixDomains, matrixControls}
 use Rattle.layout.specs.Layout.{stateIn, deviceIn}
-use Rattle.guest.proofs.Laws.{guest-adapters}
-use Rattle.guest.proofs.masks_at.Statement.{statement}
-use Rattle.guest.proofs.masks_at.Tie as tie
+use Rattle.matrix.proofs.Laws.{guest-adapters}
+use Rattle.matrix.proofs.masks_at.Statement.{statement}
+use Rattle.matrix.proofs.masks_at.Tie as tie
 
 returns : tie.Need-returns
 unfolding matrixAdapters matrixDomains matrixControls numbersOf
