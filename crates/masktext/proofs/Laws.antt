@@ -17,7 +17,8 @@ use Rattle.errno.specs.Outcome.{granted, refused}
 use Rattle.errno.specs.declared.Errno.the-variants.{Einval}
 use Rattle.mask.specs.Bits.{Bits, bits, digit, bitAt, noBits, either, group}
 use Rattle.mask.proofs.Bit.{digit-zero}
-use Rattle.number.specs.Text.{digitOf, numberRule}
+use Rattle.digits.specs.Digits.{digitOf}
+use Rattle.number.specs.Text.{numberRule}
 use Rattle.masktext.specs.declared.MaskRead.{MaskRead}
 use Rattle.masktext.specs.Text.{outcome, allHex, hexMask, signed, item, andThen, items, before, parts}
 

@@ -8,7 +8,8 @@ use lib.Dec.{eqb, ltb, leb}
 use Rattle.errno.specs.Outcome.{Outcome, granted, refused}
 use Rattle.errno.specs.declared.Errno.the-variants.{Einval}
 use Rattle.mask.specs.Bits.{Bits, bits, bitAt, included, excluded}
-use Rattle.number.specs.Text.{digitOf, body, startsHex, numberRule}
+use Rattle.digits.specs.Digits.{digitOf, body, startsHex}
+use Rattle.number.specs.Text.{numberRule}
 use Rattle.masktext.specs.declared.MaskRead.{MaskRead}
 
 -- what an answer comes to: bad text is EINVAL

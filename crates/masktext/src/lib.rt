@@ -1,6 +1,6 @@
 // Reads the text of a mask: hex digits after 0x, or a list of items that are worked on the old mask.
 //
-// Rests on errno, mask, maskbytes and number.
+// Rests on mask, errno, digits, maskbytes and number.
 use mask::Mask;
 ghost use mathlib.Core.Path.{_≡_};
 ghost use Prim.Native.Nat.{ℕ, _<_, _≤_};
@@ -23,9 +23,9 @@ pub fn parse(s: &[u8], old: Mask) -> MaskRead
     ensures { λ r. ⌜ outcome r ≡ maskText (now (s .entry)) (bits old) ⌝ }
     ensures { λ r. ⌜ (r .good ≡ false → r .mask ≡ old) ⌝ }
 {
-    let n = number::body_len(s);
+    let n = digits::body_len(s);
     let b = &s[..n];
-    if number::starts_hex(b) {
+    if digits::starts_hex(b) {
         return hex_mask(b, old);
     }
     items(b, old)
@@ -45,7 +45,7 @@ fn hex_mask(s: &[u8], old: Mask) -> MaskRead
     let mut m = Mask::empty();
     let mut i = 2usize;
     while i < s.len() {
-        let d = number::digit_of(s[i]);
+        let d = digits::digit_of(s[i]);
         if 15 < d {
             return bad(old);
         }

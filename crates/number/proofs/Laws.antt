@@ -1,25 +1,20 @@
--- Laws of the text of a number: digits, the limit, the body.
+-- Laws of the text of a number: digits and the limit.
 -- Assumes nothing.
 use Prim.Native.Nat.{ℕ, suc, _+_, _-_, _*_, _<_, _≤_}
 use native.Mathlib.Nat.{le-mul-of-pos-right}
 use native.Mathlib.Numerals.{add-one}
 use native.Mathlib.Omega.{arith}
-use mathlib.Core.Bool.{Bool, true, false, cond, _&&_, and-false}
+use mathlib.Core.Bool.{Bool, true, false, cond}
 use mathlib.Core.List.{List, [], _∷_}
-use mathlib.Core.Logic.{_⊎_, inl, inr}
 use mathlib.Core.Path.{_≡_, refl}
-use lib.ListN.{length, getD, take, drop}
-use lib.Seq.{length-take-le, take-length, drop-cons}
-use lib.Dec.{ltb, leb, eqb}
+use lib.ListN.{length, getD, drop}
+use lib.Seq.{drop-cons}
+use lib.Dec.{ltb, leb}
 use borrow.Author.Tests.{ltb-true, leb-true, leb-false, lt-leb}
 use Rattle.errno.specs.Outcome.{Outcome, granted, refused}
 use Rattle.errno.specs.declared.Errno.the-variants.{Einval}
-use Rattle.number.specs.Text.{digitOf, body, digitsAfter, anyBase, atMost, numberRule}
-
--- a byte outside a range of bytes
-pub outside : (a c z : ℕ) → (c < a) ⊎ (z < c) → leb a c && leb c z ≡ false
-outside a c z (inl h) = rw (lt-leb a c h)
-outside a c z (inr h) = rw (lt-leb c z h) (and-false (leb a c))
+use Rattle.digits.specs.Digits.{digitOf}
+use Rattle.number.specs.Text.{digitsAfter, anyBase, atMost, numberRule}
 
 -- what passes the limit is at most the limit
 pub within : (limit : ℕ) (o : Outcome ℕ) {v : ℕ} → atMost limit o ≡ granted v → v ≤ limit
@@ -89,20 +84,3 @@ turn limit base v c cs = step (ltb (digitOf c) base)
 pub turn-at : (limit base v i : ℕ) (s : List ℕ) → i < length s
     → atMost limit (digitsAfter base v (drop i s)) ≡ andDigits limit base (drop (i + 1) s) (oneMore limit base v (getD s i 0))
 turn-at limit base v i s h = rw (add-one, drop-cons s i 0 h) (turn limit base v (getD s i 0) (drop (suc i) s))
-
--- the body is the start of the text
-pub body-take : (s : List ℕ) → take (length (body s)) s ≡ body s
-unfolding body
-body-take s = step (eqb (getD s (length s - 1) 0) 10)
-  where
-    step : (b : Bool) → take (length (cond b (take (length s - 1) s) s)) s ≡ cond b (take (length s - 1) s) s
-    step true = rw (length-take-le (length s - 1) s (omega arith))
-    step false = take-length s
-
-pub body-le : (s : List ℕ) → length (body s) ≤ length s
-unfolding body
-body-le s = step (eqb (getD s (length s - 1) 0) 10)
-  where
-    step : (b : Bool) → length (cond b (take (length s - 1) s) s) ≤ length s
-    step true = omega (arith, length-take-le (length s - 1) s (omega arith))
-    step false = omega arith

@@ -1,12 +1,13 @@
 -- The text of a number (RULES.md, "Text"): base 16 after 0x, base 8 after a leading 0, else base 10.
 -- Assumes nothing.
-use Prim.Native.Nat.{ℕ, _+_, _-_, _*_}
-use mathlib.Core.Bool.{Bool, cond, _&&_}
+use Prim.Native.Nat.{ℕ, _+_, _*_}
+use mathlib.Core.Bool.{cond}
 use mathlib.Core.List.{List, [], _∷_}
-use lib.ListN.{length, getD, take, drop}
+use lib.ListN.{length, getD, drop}
 use lib.Dec.{eqb, ltb, leb}
 use Rattle.errno.specs.Outcome.{Outcome, granted, refused}
 use Rattle.errno.specs.declared.Errno.the-variants.{Einval}
+use Rattle.digits.specs.Digits.{digitOf, body, startsHex}
 use Rattle.number.specs.declared.Number.{Number}
 use Rattle.number.specs.declared.Number.the-variants.{Value, Bad}
 
@@ -14,21 +15,6 @@ use Rattle.number.specs.declared.Number.the-variants.{Value, Bad}
 unfoldable pub outcome : Number → Outcome ℕ
 outcome (Value v) = granted v
 outcome Bad = refused Einval
-
--- the value of a byte as a digit, hex digits of either case; 16 for any other byte
-unfoldable pub digitOf : ℕ → ℕ
-digitOf c =
-    cond (leb 48 c && leb c 57) (c - 48)
-    (cond (leb 97 c && leb c 102) (c - 87)
-    (cond (leb 65 c && leb c 70) (c - 55) 16))
-
--- the text without one final newline
-unfoldable pub body : List ℕ → List ℕ
-body s = cond (eqb (getD s (length s - 1) 0) 10) (take (length s - 1) s) s
-
--- whether a text starts with 0x
-unfoldable pub startsHex : List ℕ → Bool
-startsHex s = eqb (getD s 0 0) 48 && eqb (getD s 1 0) 120
 
 -- the value of digits of a base, v being that of the digits before them
 unfoldable pub digitsAfter : ℕ → ℕ → List ℕ → Outcome ℕ

@@ -1,14 +1,15 @@
 // Reads the text of a number: base 16 after 0x, base 8 after a leading 0, else base 10.
 //
-// Rests on errno.
+// Rests on errno and digits.
 ghost use mathlib.Core.Path.{_≡_};
 ghost use mathlib.Core.Bool.{cond};
 ghost use Prim.Native.Nat.{_+_, _*_};
 ghost use lib.Dec.{ltb};
-ghost use lib.ListN.{length, getD, drop};
+ghost use lib.ListN.{getD, drop};
 ghost use Rattle.errno.specs.Outcome.{granted, refused};
 ghost use Rattle.errno.specs.declared.Errno.the-variants.{Einval};
-ghost use Rattle.number.specs.Text.{outcome, digitOf, body, startsHex, digits, atMost, numberRule, numberText};
+ghost use Rattle.digits.specs.Digits.{digitOf};
+ghost use Rattle.number.specs.Text.{outcome, digits, atMost, numberRule, numberText};
 
 // What reading a text finds.
 pub enum Number {
@@ -20,7 +21,7 @@ pub enum Number {
 pub fn parse(s: &[u8]) -> Number
     ensures { λ r. ⌜ outcome r ≡ numberText (now (s .entry)) ⌝ }
 {
-    let n = body_len(s);
+    let n = digits::body_len(s);
     parse_at_most(&s[..n], 65535)
 }
 
@@ -31,58 +32,13 @@ pub fn parse_at_most(s: &[u8], limit: u16) -> Number
     if 16 < s.len() {
         return Number::Bad;
     }
-    if starts_hex(s) {
+    if digits::starts_hex(s) {
         return digits_from(s, 2, 16, limit);
     }
     if first(s) == b'0' {
         return digits_from(s, 0, 8, limit);
     }
     digits_from(s, 0, 10, limit)
-}
-
-// The length of a text without one final newline.
-pub fn body_len(s: &[u8]) -> usize
-    ensures { λ r. ⌜ r ≡ length (body (now (s .entry))) ⌝ }
-{
-    let n = s.len();
-    if n == 0 {
-        return 0;
-    }
-    if s[n - 1] == b'\n' { n - 1 } else { n }
-}
-
-pub fn starts_hex(s: &[u8]) -> bool
-    ensures { λ r. ⌜ r ≡ startsHex (now (s .entry)) ⌝ }
-{
-    if s.len() < 2 {
-        return false;
-    }
-    if s[0] != b'0' {
-        return false;
-    }
-    s[1] == b'x'
-}
-
-// The value of a byte as a digit, or 16 where it is none.
-pub fn digit_of(c: u8) -> u8
-    ensures { λ r. ⌜ r ≡ digitOf c ⌝ }
-{
-    if b'0' <= c {
-        if c <= b'9' {
-            return c - b'0';
-        }
-    }
-    if b'a' <= c {
-        if c <= b'f' {
-            return c - b'a' + 10;
-        }
-    }
-    if b'A' <= c {
-        if c <= b'F' {
-            return c - b'A' + 10;
-        }
-    }
-    16
 }
 
 // The first byte, or 0 where there is none.
@@ -119,7 +75,7 @@ fn digits_from(s: &[u8], from: usize, base: u8, limit: u16) -> Number
 fn one_more(v: u16, base: u8, c: u8, limit: u16) -> Number
     ensures { λ r. ⌜ outcome r ≡ cond (ltb (digitOf c) base) (atMost limit (granted (v * base + digitOf c))) (refused Einval) ⌝ }
 {
-    let d = digit_of(c);
+    let d = digits::digit_of(c);
     if base <= d {
         return Number::Bad;
     }

@@ -14,7 +14,8 @@ use Rattle.errno.specs.Errno.{numberOf}
 use Rattle.errno.specs.Outcome.{granted, refused}
 use Rattle.errno.specs.declared.Errno.the-variants.{Einval}
 use Rattle.mask.specs.Bits.{Bits, digit, bitAt, noBits, allBits, bitsAbove, included, excluded, both, someBelow, number, numbers}
-use Rattle.number.specs.Text.{digitOf, body, startsHex, digitsAfter, digits, anyBase, atMost, numberRule, numberText}
+use Rattle.digits.specs.Digits.{digitOf, body, startsHex}
+use Rattle.number.specs.Text.{digitsAfter, digits, anyBase, atMost, numberRule, numberText}
 use Rattle.masktext.specs.Text.{allHex, hexMask, signed, item, andThen, items, before, parts, maskText}
 use Rattle.rules.specs.declared.Driver.{Driver}
 use Rattle.rules.specs.declared.Driver.the-variants.{Unbound, Host, Passthrough}

@@ -12,7 +12,7 @@ use lib.Seq.{take-all}
 use borrow.Author.Tests.{lt-ltb, le-ltb}
 use Rattle.errno.specs.Outcome.{granted}
 use Rattle.mask.specs.Bits.{Bits, bits, bitAt, either, group}
-use Rattle.number.specs.Text.{digitOf}
+use Rattle.digits.specs.Digits.{digitOf}
 use Rattle.masktext.specs.Text.{outcome, allHex}
 use Rattle.masktext.proofs.Laws.{all-hex-turn, all-hex-end, hex-few, hex-many, hex-other, hex-right, bits-none, hex-turn}
 use borrow.Author.Needs.{needs}

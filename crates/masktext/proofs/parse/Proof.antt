@@ -7,8 +7,8 @@ use mathlib.Core.Path.{_≡_, sym, ap, _∙_}
 use lib.ListN.{take}
 use denote.Ref.{now}
 use lib.Seq.{length-take-le}
-use Rattle.number.specs.Text.{body, startsHex}
-use Rattle.number.proofs.Laws.{body-le, body-take}
+use Rattle.digits.specs.Digits.{body, startsHex}
+use Rattle.digits.proofs.Laws.{body-le, body-take}
 use Rattle.masktext.specs.Text.{maskText}
 use borrow.Author.Needs.{needs}
 use Rattle.masktext.proofs.parse.Statement.{statement}

@@ -5,7 +5,8 @@ use native.Mathlib.Omega.{arith}
 use native.Mathlib.Nat.{mul-le-mul, mod-eq-of-lt}
 use borrow.Author.Tests.{lt-ltb, le-ltb, le-leb, lt-leb}
 use borrow.Author.Needs.{needs}
-use Rattle.number.specs.Text.{outcome, digitOf, atMost}
+use Rattle.digits.specs.Digits.{digitOf}
+use Rattle.number.specs.Text.{outcome, atMost}
 use Rattle.number.proofs.one_more.Statement.{statement}
 use Rattle.number.proofs.one_more.Tie as tie
 

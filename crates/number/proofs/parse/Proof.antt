@@ -6,7 +6,7 @@ use denote.Ref.{now}
 use lib.Seq.{length-take-le}
 use borrow.Author.Needs.{needs}
 use Rattle.number.specs.Text.{numberText}
-use Rattle.number.proofs.Laws.{body-le, body-take}
+use Rattle.digits.proofs.Laws.{body-le, body-take}
 use Rattle.number.proofs.parse.Statement.{statement}
 use Rattle.number.proofs.parse.Tie as tie
 

@@ -4,10 +4,10 @@ use native.Mathlib.Omega.{arith}
 use mathlib.Core.Logic.{inl, inr, ⊎-elim}
 use borrow.Author.Tests.{le-leb}
 use borrow.Author.Needs.{needs}
-use Rattle.number.specs.Text.{digitOf}
-use Rattle.number.proofs.Laws.{outside}
-use Rattle.number.proofs.digit_of.Statement.{statement}
-use Rattle.number.proofs.digit_of.Tie as tie
+use Rattle.digits.specs.Digits.{digitOf}
+use Rattle.digits.proofs.Laws.{outside}
+use Rattle.digits.proofs.digit_of.Statement.{statement}
+use Rattle.digits.proofs.digit_of.Tie as tie
 
 returns : tie.Need-returns
 unfolding digitOf

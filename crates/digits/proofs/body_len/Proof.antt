@@ -6,10 +6,10 @@ use denote.Ref.{now}
 use lib.Seq.{length-take-le}
 use borrow.Author.Tests.{eq-eqb, ne-eqb}
 use borrow.Author.Needs.{needs}
-use Rattle.number.specs.Text.{body}
-use Rattle.number.proofs.Laws.{body-le}
-use Rattle.number.proofs.body_len.Statement.{statement}
-use Rattle.number.proofs.body_len.Tie as tie
+use Rattle.digits.specs.Digits.{body}
+use Rattle.digits.proofs.Laws.{body-le}
+use Rattle.digits.proofs.body_len.Statement.{statement}
+use Rattle.digits.proofs.body_len.Tie as tie
 
 pub body-len-spec : {M : Type 1} → statement M
 unfolding body

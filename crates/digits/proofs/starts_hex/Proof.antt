@@ -8,9 +8,9 @@ use lib.ListN.{getD, List·getD-eq-default}
 use lib.Dec.{eqb}
 use borrow.Author.Tests.{eq-eqb, ne-eqb}
 use borrow.Author.Needs.{needs}
-use Rattle.number.specs.Text.{startsHex}
-use Rattle.number.proofs.starts_hex.Statement.{statement}
-use Rattle.number.proofs.starts_hex.Tie as tie
+use Rattle.digits.specs.Digits.{startsHex}
+use Rattle.digits.proofs.starts_hex.Statement.{statement}
+use Rattle.digits.proofs.starts_hex.Tie as tie
 
 returns : tie.Need-returns
 unfolding startsHex
