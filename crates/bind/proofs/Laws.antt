@@ -1,30 +1,21 @@
--- A queue's target by its adapter and its domain; the byte that a move writes, read as a move of the state.
+-- The byte that a move writes, read as a move of the state.
 -- Assumes nothing.
-use Prim.Native.Nat.{ℕ, _+_, _*_, _<_}
+use Prim.Native.Nat.{ℕ, _<_}
 use mathlib.Core.Path.{_≡_, refl, ap, _∙_, fun-ext}
-use mathlib.Core.Bool.{Bool, true, false, cond, _&&_}
+use mathlib.Core.Bool.{Bool, true, false, cond}
 use mathlib.Core.List.{List}
 use lib.ListN.{length, getD, length-set}
 use lib.Seq.{getD-set-other}
-use lib.Dec.{eqb, leb}
+use lib.Dec.{eqb}
 use borrow.Author.Tests.{eqb-true}
 use Rattle.rules.specs.declared.Driver.{Driver}
 use Rattle.rules.specs.declared.Driver.the-variants.{Unbound, Host, Passthrough}
 use Rattle.rules.specs.declared.Moved.{Moved}
 use Rattle.rules.specs.declared.Moved.the-variants.{Idle, Released, BoundHost, BoundPassthrough}
-use Rattle.rules.specs.State.{HostMasks, Config}
-use Rattle.rules.specs.Queues.{reserved, configured, targetOf, moved, after, rebound, moveAnswer, move}
-use Rattle.rules.proofs.Products.{in-product, queue-apid}
+use Rattle.rules.specs.Queues.{targetOf, moved, after, rebound, moveAnswer, move}
 use Rattle.layout.specs.Layout.{stateIn, hostIn, configIn, driverOf, byteOf}
 use Rattle.layout.proofs.Laws.{read-rebound}
 use Rattle.bind.specs.Moves.{bytesAfter, moveBytes, Moving}
-
--- the target of a queue, by its adapter and its domain
-pub target-by : (h : HostMasks) (c : Config) (a d : ℕ) → d < 256
-    → targetOf h c (a * 256 + d)
-    ≡ cond (c .adapters a && c .domains d) (cond (h .apmask a && h .aqmask d) Host (cond (leb 10 (c .types a)) Passthrough Unbound)) Unbound
-unfolding targetOf configured reserved
-target-by h c a d l = rw (in-product (c .adapters) (c .domains) a d l, in-product (h .apmask) (h .aqmask) a d l, queue-apid a d l)
 
 -- a queue that is given the driver it has
 same-driver : (n : ℕ) (ds : ℕ → Driver) (q : ℕ) → ds q ≡ rebound n (ds n) ds q

@@ -18,7 +18,8 @@ use Rattle.layout.specs.Layout.{stateIn}
 use Rattle.layout.specs.Carried.{Memory, read, Carried}
 use Rattle.setup.specs.Fresh.{start, freshMemory}
 use Rattle.rules.specs.Sweeps.{swept, moveEach}
-use Rattle.devices.specs.Effects.{created, removed, opened, closed}
+use Rattle.create.specs.Created.{created}
+use Rattle.devices.specs.Effects.{removed, opened, closed}
 use Rattle.assign.specs.Numbers.{assigned, unassigned}
 use Rattle.host.specs.Masks.{withApmask, withAqmask}
 use Rattle.model.specs.Steps.{Command, create, remove, openIt, closeIt, assign, unassign, setApmask, setAqmask, configure, Step, command, move, queueOf, rule, after, afterAll, answers}

@@ -22,7 +22,8 @@ use Rattle.setup.specs.Fresh.{start, freshMemory}
 use Rattle.sweep.specs.declared.Swept.{Swept}
 use Rattle.bind.specs.Moves.{Moving}
 use Rattle.sweep.specs.Sweeps.{Sweeping}
-use Rattle.devices.specs.Effects.{created, removed, opened, closed}
+use Rattle.create.specs.Created.{created}
+use Rattle.devices.specs.Effects.{removed, opened, closed}
 use Rattle.assign.specs.Numbers.{assigned, unassigned, Assigning}
 use Rattle.host.specs.Masks.{withApmask, withAqmask}
 use Rattle.configure.specs.Configured.{configured}

@@ -16,7 +16,8 @@ ghost use Rattle.rules.specs.Commands.{create, remove, openDevice, closeDevice,
 ghost use Rattle.layout.specs.Lent.{state};
 ghost use Rattle.layout.specs.Carried.{Obeys};
 ghost use Rattle.setup.specs.Fresh.{Freshens};
-ghost use Rattle.devices.specs.Effects.{created, removed, opened, closed};
+ghost use Rattle.create.specs.Created.{created};
+ghost use Rattle.devices.specs.Effects.{removed, opened, closed};
 ghost use Rattle.assign.specs.Numbers.{Assigns, Unassigns};
 ghost use Rattle.host.specs.Masks.{withApmask, withAqmask};
 ghost use Rattle.configure.specs.Configured.{Configures};
@@ -48,7 +49,7 @@ pub extern "C" fn zk_fresh(
 pub extern "C" fn zk_create(words: &mut Words, hi: u64, lo: u64) -> u8
     ensures { λ r. ⌜ Numbered (Obeys (create (idWith hi lo)) (created (idWith hi lo)) (words .entry) (words .exit)) r ⌝ }
 {
-    rules::answer_number(devices::create(words, Id { hi: hi, lo: lo }))
+    rules::answer_number(create::create(words, Id { hi: hi, lo: lo }))
 }
 
 #[no_mangle]

@@ -59,7 +59,7 @@ fn answer(a: Answer) {
 
 fn device(words: &mut Words, letter: u8, id: Id) -> Answer {
     match letter {
-        b'c' => devices::create(words, id),
+        b'c' => create::create(words, id),
         b'r' => devices::remove(words, id),
         b'o' => devices::open(words, id),
         _ => devices::close(words, id),
@@ -121,7 +121,7 @@ fn queues(words: &Words, drivers: &mut Drivers, letter: u8, s: &[u8]) {
     let apqi = Apqi(byte(s, 2));
     match letter {
         b'm' => moved(bind::move_queue(words, drivers, apid, apqi)),
-        b't' => target(bind::target(words, apid, apqi)),
+        b't' => target(target::target(words, apid, apqi)),
         b's' => sweep(sweep::sweep(words, drivers, (n % 4294967296) as u32)),
         _ => number(due::remaining(words, drivers) as u64),
     }

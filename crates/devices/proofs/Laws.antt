@@ -1,21 +1,20 @@
--- A change of a device that is open as wanted, and the rule of a new device.
+-- A change of a device that is open as wanted.
 -- Assumes nothing.
 use Prim.Native.Nat.{ℕ, _≤_, _<_}
 use mathlib.Core.Bool.{Bool, Bool·beq, true, false, cond, not}
 use mathlib.Core.List.{List}
-use mathlib.Core.Path.{_≡_, refl, sym, ap, ap₂, _∙_}
+use mathlib.Core.Path.{_≡_, refl, sym, ap, _∙_}
 use lib.ListN.{length}
-use lib.Dec.{ltb}
-use Rattle.errno.specs.Outcome.{Outcome, granted, refused}
+use Rattle.errno.specs.Outcome.{granted, refused}
 use Rattle.errno.specs.declared.Errno.{Errno}
-use Rattle.errno.specs.declared.Errno.the-variants.{Enoent, Eexist, Enospc}
+use Rattle.errno.specs.declared.Errno.the-variants.{Enoent}
 use Rattle.rules.specs.declared.Answer.the-variants.{Done, Refused}
 use Rattle.rules.specs.declared.Id.{Id}
 use Rattle.rules.specs.State.{State, slots}
-use Rattle.rules.specs.Commands.{slotOf, freeSlot, withDevice, newDevice, create}
+use Rattle.rules.specs.Commands.{slotOf, withDevice}
 use Rattle.layout.specs.Layout.{wordCount, deviceIn, stateIn, putDevice, putOpen, noId}
 use Rattle.layout.specs.Carried.{CarriedWords}
-use Rattle.layout.proofs.Laws.{cond-below, cond-past, refused-carried, done-carried, read-open, read-none}
+use Rattle.layout.proofs.Laws.{refused-carried, done-carried, read-open, read-none}
 use Rattle.lookup.proofs.Found.{known, unknown}
 use Rattle.devices.specs.Effects.{asWanted, next, changing, changed}
 
@@ -62,23 +61,3 @@ module _ (i : Id) (ws : List ℕ) (w : Bool) (e : Errno) (removes : Bool) (p : �
         reads : (b : Bool) (qs : List ℕ) → stateIn (put b) qs ≡ withDevice p (next w b (deviceIn ws p)) (stateIn ws qs)
         reads true qs = read-none ws qs p long there
         reads false qs = read-open ws qs p long there (not w)
-
--- a new device's rule, by the slots of its id and of the first empty one
-module _ (i : Id) (ws qs : List ℕ) (p f : ℕ) (at : p ≡ slotOf i (deviceIn ws)) (empty : f ≡ freeSlot (deviceIn ws)) where
-  made : ℕ → Outcome State
-  made k = cond (ltb k slots) (granted (withDevice k (newDevice i) (stateIn ws qs))) (refused Enospc)
-
-  by-slots : create i (stateIn ws qs) ≡ cond (ltb p slots) (refused Eexist) (made f)
-  unfolding create stateIn made
-  by-slots = sym (ap₂ (λ (x y : ℕ). cond (ltb x slots) (refused Eexist) (made y)) at empty)
-
-  pub create-known : p < slots → create i (stateIn ws qs) ≡ refused Eexist
-  create-known h = by-slots ∙ cond-below p slots (refused Eexist) (made f) h
-
-  pub create-full : slots ≤ p → slots ≤ f → create i (stateIn ws qs) ≡ refused Enospc
-  unfolding made
-  create-full h l = by-slots ∙ cond-past p slots (refused Eexist) (made f) h ∙ cond-past f slots _ (refused Enospc) l
-
-  pub create-new : slots ≤ p → f < slots → create i (stateIn ws qs) ≡ granted (withDevice f (newDevice i) (stateIn ws qs))
-  unfolding made
-  create-new h l = by-slots ∙ cond-past p slots (refused Eexist) (made f) h ∙ cond-below f slots _ (refused Enospc) l

@@ -8,12 +8,8 @@ use Rattle.errno.specs.Outcome.{Outcome, granted, refused}
 use Rattle.errno.specs.declared.Errno.{Errno}
 use Rattle.rules.specs.declared.Id.{Id}
 use Rattle.rules.specs.State.{Device, State, noDevice}
-use Rattle.rules.specs.Commands.{slotOf, freeSlot, onDevice, withDevice, withOpen}
+use Rattle.rules.specs.Commands.{slotOf, onDevice, withDevice, withOpen}
 use Rattle.layout.specs.Layout.{deviceIn, putDevice, putOpen, noId}
-
--- the lowest free slot is given the id
-abbrev pub created : Id → List ℕ → List ℕ
-created i ws = putDevice ws (freeSlot (deviceIn ws)) true i
 
 -- the device's slot is emptied
 abbrev pub removed : Id → List ℕ → List ℕ

@@ -1,4 +1,4 @@
-// The life of a mediated device: create, remove, open, close.
+// The life of a mediated device once it is created: remove, open, close.
 //
 // Rests on errno, rules, layout, record, store and lookup.
 use errno::Errno;
@@ -6,24 +6,9 @@ use layout::SLOTS;
 use layout::Words;
 use rules::Answer;
 use rules::Id;
-ghost use Rattle.rules.specs.Commands.{create, remove, openDevice, closeDevice};
+ghost use Rattle.rules.specs.Commands.{remove, openDevice, closeDevice};
 ghost use Rattle.layout.specs.Carried.{Obeys};
-ghost use Rattle.devices.specs.Effects.{created, removed, opened, closed, changing, changed};
-
-pub fn create(words: &mut Words, id: Id) -> Answer
-    ensures { λ r. ⌜ Obeys (create id) (created id) (words .entry) (words .exit) r ⌝ }
-{
-    if lookup::find(words, id) < SLOTS {
-        return Answer::Refused(Errno::Eexist);
-    }
-    let slot = lookup::free(words);
-    if SLOTS <= slot {
-        return Answer::Refused(Errno::Enospc);
-    }
-    layout::hold_words(words);
-    store::put_device(words, slot, true, id);
-    Answer::Done
-}
+ghost use Rattle.devices.specs.Effects.{removed, opened, closed, changing, changed};
 
 pub fn remove(words: &mut Words, id: Id) -> Answer
     ensures { λ r. ⌜ Obeys (remove id) (removed id) (words .entry) (words .exit) r ⌝ }

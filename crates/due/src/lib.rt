@@ -1,6 +1,6 @@
 // How far queues are from their targets: the moves that are due of one, and the moves remaining over all.
 //
-// Rests on mask, rules, layout, drivers and bind.
+// Rests on mask, rules, layout, drivers and target.
 use layout::Drivers;
 use layout::Words;
 use mask::Apid;
@@ -26,7 +26,7 @@ pub fn need_at(words: &Words, drivers: &Drivers, queue: usize) -> Need
 {
     let a = Apid((queue / 256 % 256) as u8);
     let d = Apqi((queue % 256) as u8);
-    let t = bind::target(words, a, d);
+    let t = target::target(words, a, d);
     let n = due_by(drivers::driver(drivers, a, d), t);
     Need { due: n, target: t }
 }

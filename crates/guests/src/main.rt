@@ -99,7 +99,7 @@ fn partition() -> Configuration {
 
 fn device(words: &mut Words, what: u8, id: Id, text: &[u8]) -> Answer {
     match what {
-        b'c' => devices::create(words, id),
+        b'c' => create::create(words, id),
         b'o' => devices::open(words, id),
         _ => assign::assign(words, kind(what), id, text),
     }

@@ -1,6 +1,6 @@
 // Carries out one request, by the function that a caller would call.
 //
-// Rests on mask, rules, fields, layout, bind, sweep, devices, assign, host, configure, model, calls and encoding.
+// Rests on mask, rules, fields, layout, model, encoding, host, configure, bind, devices, create, assign, sweep and calls.
 use layout::Drivers;
 use layout::Words;
 use mask::Apid;
@@ -24,7 +24,7 @@ pub fn command(
     ensures { λ r. ⌜ Obeyed op kind id (text .entry) (words .entry) (words .exit) (drivers .entry) (drivers .exit) r ⌝ }
 {
     match op {
-        0 => devices::create(words, id),
+        0 => create::create(words, id),
         1 => devices::remove(words, id),
         2 => devices::open(words, id),
         3 => devices::close(words, id),

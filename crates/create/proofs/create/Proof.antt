@@ -9,10 +9,10 @@ use Rattle.errno.specs.declared.Errno.the-variants.{Eexist, Enospc}
 use Rattle.rules.specs.Commands.{create, withDevice, newDevice}
 use Rattle.layout.specs.Layout.{stateIn, putDevice}
 use Rattle.layout.proofs.Laws.{refused-carried, done-carried, read-new}
-use Rattle.devices.specs.Effects.{created}
-use Rattle.devices.proofs.Laws.{create-known, create-full, create-new}
-use Rattle.devices.proofs.create.Statement.{statement}
-use Rattle.devices.proofs.create.Tie as tie
+use Rattle.create.specs.Created.{created}
+use Rattle.create.proofs.Laws.{create-known, create-full, create-new}
+use Rattle.create.proofs.create.Statement.{statement}
+use Rattle.create.proofs.create.Tie as tie
 
 returns : tie.Need-returns
 returns c =

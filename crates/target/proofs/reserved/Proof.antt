@@ -11,8 +11,8 @@ use mathlib.Core.Bool.{_&&_}
 use Rattle.rules.specs.State.{apqn}
 use Rattle.rules.specs.Queues.{reserved}
 use Rattle.rules.proofs.Products.{in-product}
-use Rattle.bind.proofs.reserved.Statement.{statement}
-use Rattle.bind.proofs.reserved.Tie as tie
+use Rattle.target.proofs.reserved.Statement.{statement}
+use Rattle.target.proofs.reserved.Tie as tie
 
 -- the adapter's bit
 adapter : (c : tie.After-has-adapter) → c .has-adapter .result ≡ hostIn (now (c .before .before .args .words)) .apmask (c .before .before .args .adapter .0)

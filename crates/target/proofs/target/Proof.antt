@@ -12,10 +12,10 @@ use Rattle.rules.specs.State.{apqn}
 use Rattle.rules.specs.Queues.{reserved, targetOf}
 use Rattle.rules.proofs.Products.{in-product}
 use Rattle.layout.specs.Lent.{host, config}
-use Rattle.bind.proofs.Laws.{target-by}
+use Rattle.target.proofs.Laws.{target-by}
 use borrow.Author.Needs.{needs}
-use Rattle.bind.proofs.target.Statement.{statement}
-use Rattle.bind.proofs.target.Tie as tie
+use Rattle.target.proofs.target.Statement.{statement}
+use Rattle.target.proofs.target.Tie as tie
 
 -- the target, past the tests of the configuration where both hold
 abbrev owner : tie.Start → Bool → Driver
