@@ -1,44 +1,56 @@
 /*
  * Which KVM guest gets which queue of a crypto card: the C interface of a proved library.
  *
- * A queue is named by an adapter (APID) and a usage domain (APQI), both from 0 to 255. The host reserves queues by apmask
- * and aqmask; the others can be passed through to a guest by way of a mediated device, which has a 16-byte id.
+ * A queue is named by an adapter (APID) and a usage domain (APQI), both from 0 to 255. A mediated device, which has a
+ * 16-byte id (its UUID), stands for a guest. The names are those of the kernel's vfio_ap attributes.
+ *
+ * RULES
+ *  - A queue is reserved for the host where apmask has its adapter AND aqmask has its domain. It takes both.
+ *  - The driver that a queue should have, its target: none where its adapter or its usage domain is not configured; else
+ *    the host's where it is reserved; else passthrough where the adapter's hardware type is 10 or higher; else none.
+ *  - A driver changes by moves alone, a queue at a time (a configuration only takes drivers away, at once). So each change
+ *    of apmask, aqmask or the configuration is followed by a sweep, and until then guests go without.
+ *  - A device's matrix is each of its adapters with each of its domains. A number is refused if it would add a queue that
+ *    is reserved, or one that another device has, open or not, configured or not. Control domains may be shared.
+ *  - Its guest_matrix has the domains that are assigned and configured, and of the adapters that are assigned and
+ *    configured those whose queues with all of these domains are bound to passthrough. ONE QUEUE THAT IS NOT DROPS THE
+ *    WHOLE ADAPTER. Control domains count where they are assigned as such and configured as such.
+ *  - A guest can use a queue while its device is open and its guest_matrix has the queue.
+ *
+ * FROM BOOT TO A GUEST AND ITS END
+ *     zk_fresh                                     a record, with every queue reserved for the host
+ *     zk_set_apmask, zk_set_aqmask                 "-5,-6" takes adapters 5 and 6 from the host, where aqmask agrees
+ *     zk_configure                                 what the partition has; again whenever that changes
+ *     zk_sweep                                     binds the queues; after each of the two lines above
+ *     zk_create, zk_assign_adapter, zk_assign_domain, zk_assign_control_domain
+ *     zk_open                                      as the guest starts
+ *     zk_guest_matrix_masks                        the guest's three masks; read them again after every call that changed
+ *                                                  the record, since each can change them
+ *     zk_close, zk_unassign_..., zk_remove         as the guest ends
  *
  * MEMORY. The caller owns all of it and lends it for the length of a call. The library allocates nothing, keeps no
  * pointer and has no state of its own, so a record ends when its memory does and there is nothing to free.
- *  - A record is uint64_t words[ZK_WORDS] and uint8_t drivers[ZK_QUEUES]. Several records do not know of each other, and
- *    a copy of both arrays is a record too. zk_fresh writes every byte; the memory need not be cleared first.
- *  - No pointer may be null, also where its length is 0. Words are aligned as uint64_t. No two pointers of one call may
- *    lead to the same bytes.
- *  - Any contents are read by the rules below, and no contents make a call fault.
+ *  - zk_fresh writes every byte of a record; the memory need not be cleared first. Several records do not know of each
+ *    other, and a copy of a record is a record too. What its words mean can change with ZK_VERSION, and they are numbers
+ *    of this machine: look at a record by the functions below, and do not send it elsewhere.
+ *  - No pointer may be null, also where its length is 0. No two pointers of one call may lead to the same bytes.
+ *  - Any contents of a record are read by the same rules, and none makes a call fault. Of two devices with one id the one
+ *    in the lower slot is meant.
  *
- * THREADS. There are no locks: one caller at a time for each record. Calls on different records can run side by side.
+ * THREADS. There are no locks. Calls that take a const record only read it, and can run side by side on one record while
+ * no other call runs on it; any other call must be alone on its record. Calls on different records can run side by side.
  *
- * ANSWERS. Unless said otherwise a call answers 0, or the errno value of its refusal. The checks are made in the order in
- * which the values stand at each function, and a text is read before anything else is checked. A refused call leaves every
- * byte that it was lent as it was.
+ * ANSWERS. A call that can be refused answers 0, or the errno value of its refusal, as an int. The checks are made in the
+ * order in which the values stand at each function, and a text is read before anything else is checked. A refused call
+ * leaves every byte that it was lent as it was. Calls that answer something else, or nothing, cannot be refused.
  *
- * TEXT is bytes with a length and no terminator.
+ * TEXT is bytes with a length and needs no terminator.
  *  - A number: decimal, hex after 0x, octal after a leading 0; 1 to 16 bytes, of at most 65535.
  *  - A mask: 0x and 1 to 64 hex digits, bit 0 first, filled with zeros on the right; or items with commas between, each
  *    + or - and a number of at most 255, worked from left to right on the old mask.
  *  One newline may end either. Anything else is ZK_EINVAL.
  *
- * THE WORDS. A mask is four words; bit 0 is the most significant bit of the first.
- *     0             highest adapter; a value above 255 is read as 255
- *     1             highest domain; likewise
- *     2 to 5        apmask
- *     6 to 9        aqmask
- *     10 to 13      configured adapters
- *     14 to 17      configured usage domains
- *     18 to 21      configured control domains
- *     22 to 277     a hardware type for each adapter; only 10 or higher can be passed through
- *     278 to 405    ZK_SLOTS slots for a device, 16 words each:
- *                   0 present (0 is none, anything else is present), 1 open (likewise), 2 and 3 the id,
- *                   4 to 7 assigned adapters, 8 to 11 assigned domains, 12 to 15 assigned control domains
- * Of two devices with the same id the first is meant.
- *
- * THE DRIVERS. drivers[APID * 256 + APQI] is ZK_UNBOUND, ZK_HOST or ZK_PASSTHROUGH; any other value counts as unbound.
+ * A MASK AS BYTES: byte 0 holds bits 0 to 7, and bit 0 is its most significant bit.
  */
 #ifndef ZOKORMENDU_H
 #define ZOKORMENDU_H
@@ -50,32 +62,26 @@
 extern "C" {
 #endif
 
-/* Sizes. */
-#define ZK_WORDS 406         /* uint64_t words of a record */
-#define ZK_QUEUES 65536      /* driver bytes of a record; also the place after the last queue */
-#define ZK_SLOTS 8           /* devices at most */
-#define ZK_ID_BYTES 16       /* an id */
-#define ZK_MASK_BYTES 32     /* a mask as bytes: byte 0 holds bits 0 to 7, bit 0 its most significant bit */
-#define ZK_MASKS_BYTES 96    /* three masks: adapters, usage domains, control domains */
-#define ZK_CONFIG_BYTES 352  /* three masks, then a hardware type for each of 256 adapters */
-#define ZK_LINE_BYTES 8      /* a line of a listing: aa.dddd and a newline */
-#define ZK_NAME_BYTES 14     /* the name of an errno value, filled with zeros */
-#define ZK_MOST_MOVES 131072 /* what a sweep can need; a larger budget is taken as this */
+/* 10000 times the first number, 100 times the second, the third. */
+#define ZK_VERSION 100
+#define ZK_VERSION_STRING "0.1.0"
 
-/* Where the parts of the words lie. */
-#define ZK_AT_HIGHEST_ADAPTER 0
-#define ZK_AT_HIGHEST_DOMAIN 1
-#define ZK_AT_APMASK 2
-#define ZK_AT_AQMASK 6
-#define ZK_AT_ADAPTERS 10
-#define ZK_AT_DOMAINS 14
-#define ZK_AT_CONTROLS 18
-#define ZK_AT_TYPES 22
-#define ZK_AT_SLOTS 278
-#define ZK_SLOT_WORDS 16
+/* Sizes. */
+#define ZK_WORDS 406                  /* uint64_t words of a record */
+#define ZK_QUEUES 65536               /* driver bytes of a record; also the place after the last queue */
+#define ZK_RECORD_BYTES 68784         /* a record */
+#define ZK_SLOTS 8                    /* devices at most */
+#define ZK_ID_BYTES 16                /* an id */
+#define ZK_MASK_BYTES 32              /* a mask */
+#define ZK_MASKS_BYTES 96             /* three masks: adapters, usage domains, control domains */
+#define ZK_CONFIG_BYTES 352           /* three masks, then a hardware type for each of 256 adapters */
+#define ZK_LINE_BYTES 8               /* a line of a matrix: aa.dddd and a newline */
+#define ZK_CONTROL_DOMAINS_BYTES 1280 /* the longest list of control domains: 256 lines of dddd and a newline */
+#define ZK_NAME_BYTES 14              /* a name as a C string */
+#define ZK_MOST_MOVES 131072          /* what a sweep can need; a larger budget is taken as this */
 
 /* The refusals. */
-#define ZK_ENOENT 2         /* no device has this id */
+#define ZK_ENOENT 2         /* no device has this id; no device is there */
 #define ZK_EBUSY 16         /* remove or open of an open device */
 #define ZK_EEXIST 17        /* create of a present id */
 #define ZK_ENODEV 19        /* a number or bit above its limit */
@@ -95,85 +101,339 @@ extern "C" {
 #define ZK_BOUND_HOST 2
 #define ZK_BOUND_PASSTHROUGH 3
 
-/* The kind of an assigned number; any other value is a control domain too. */
-#define ZK_ADAPTER 0
-#define ZK_DOMAIN 1
-#define ZK_CONTROL 2
+/* A record. */
+struct zk_record {
+    uint64_t words[ZK_WORDS];
+    uint8_t drivers[ZK_QUEUES];
+};
 
-/* The matrix of a device: what is assigned, or what its guest gets; any other value is the guest's too. */
-#define ZK_ASSIGNED 0
-#define ZK_GUEST 1
-
-/* The first half of an id: its bytes 0 to 7 as a big-endian number. */
-static inline uint64_t zk_id_hi(const uint8_t *id)
-{
-    uint64_t n = 0;
-    for (int i = 0; i < 8; i++)
-        n = n << 8 | id[i];
-    return n;
-}
-
-/* The second half of an id: its bytes 8 to 15. */
-static inline uint64_t zk_id_lo(const uint8_t *id)
-{
-    return zk_id_hi(id + 8);
-}
-
-/* Makes a fresh record: both host masks all ones, nothing configured, every queue unbound, no device; 0 or EINVAL. */
-uint8_t zk_fresh(uint64_t *words, uint8_t *drivers, uint64_t highest_adapter, uint64_t highest_domain);
-
-/* Creates a device in the lowest free slot, with nothing assigned and not open; 0, EEXIST or ENOSPC. */
-uint8_t zk_create(uint64_t *words, uint64_t hi, uint64_t lo);
-
-/* Removes a device, and fills its slot with zeros; 0, ENOENT or EBUSY. */
-uint8_t zk_remove(uint64_t *words, uint64_t hi, uint64_t lo);
-
-/* Marks a device as open, as its guest starts; 0, ENOENT or EBUSY. */
-uint8_t zk_open(uint64_t *words, uint64_t hi, uint64_t lo);
-
-/* Marks a device as not open, as its guest ends; 0, ENOENT or EINVAL. */
-uint8_t zk_close(uint64_t *words, uint64_t hi, uint64_t lo);
-
-/* Assigns a number; 0, EINVAL, ENOENT, ENODEV, and for an adapter or a domain that is new EADDRNOTAVAIL, EADDRINUSE. */
-uint8_t zk_assign(uint64_t *words, uint64_t hi, uint64_t lo, uint8_t kind, const uint8_t *text, size_t length);
-
-/* Unassigns a number, assigned or not; 0, EINVAL, ENOENT or ENODEV. */
-uint8_t zk_unassign(uint64_t *words, uint64_t hi, uint64_t lo, uint8_t kind, const uint8_t *text, size_t length);
-
-/* Replaces apmask; 0, EINVAL or EADDRINUSE. */
-uint8_t zk_set_apmask(uint64_t *words, const uint8_t *text, size_t length);
-
-/* Replaces aqmask; 0, EINVAL or EADDRINUSE. */
-uint8_t zk_set_aqmask(uint64_t *words, const uint8_t *text, size_t length);
-
-/* Replaces the configuration by ZK_CONFIG_BYTES, and unbinds each queue that is no longer configured; 0 or ENODEV. */
-uint8_t zk_configure(uint64_t *words, uint8_t *drivers, const uint8_t *configuration);
-
-/* Brings one queue a step nearer to the driver that it should have; answers ZK_IDLE and so on, and refuses nothing. */
-uint8_t zk_move(const uint64_t *words, uint8_t *drivers, uint8_t apid, uint8_t apqi);
-
-/* Answers how many moves are needed until every move is idle. */
-uint32_t zk_remaining(const uint64_t *words, const uint8_t *drivers);
-
-/* Makes up to `budget` moves by ascending queue; answers those made, and *more is 1 where moves remain, else 0. */
-uint32_t zk_sweep(const uint64_t *words, uint8_t *drivers, uint32_t budget, uint8_t *more);
-
-/* Answers 1 where the device's guest can use the queue now, else 0, also where there is no such device. */
-uint8_t zk_usable(const uint64_t *words, const uint8_t *drivers, uint64_t hi, uint64_t lo, uint8_t apid, uint8_t apqi);
-
-/* Writes the three masks of a matrix, ZK_MASKS_BYTES; 0 or ENOENT. */
-uint8_t zk_masks(const uint64_t *words, const uint8_t *drivers, uint64_t hi, uint64_t lo, uint8_t matrix, uint8_t *masks);
+#ifdef __cplusplus
+static_assert(sizeof(struct zk_record) == ZK_RECORD_BYTES, "the size of a record");
+#else
+_Static_assert(sizeof(struct zk_record) == ZK_RECORD_BYTES, "the size of a record");
+#endif
 
 /*
- * Lists a matrix by ascending queue from a place (APID * 256 + APQI) on, whole lines only, as many as fit; 0, ENOENT or
- * ENOSPC. *written is the number of bytes; the bytes after them stay as they were. *next is the place to go on from, and
- * ZK_QUEUES where nothing is left. A refused call leaves both as they were.
+ * What the archive exports, for callers that cannot use the inline functions below: the same calls, with the record as its
+ * two arrays and text as bytes.
  */
-uint8_t zk_list(const uint64_t *words, const uint8_t *drivers, uint64_t hi, uint64_t lo, uint8_t matrix, size_t place,
-                uint8_t *buffer, size_t length, size_t *written, size_t *next);
+uint8_t zk_raw_fresh(uint64_t *words, uint8_t *drivers, uint64_t highest_adapter, uint64_t highest_domain);
+uint8_t zk_raw_create(uint64_t *words, uint8_t *drivers, const uint8_t *id);
+uint8_t zk_raw_remove(uint64_t *words, uint8_t *drivers, const uint8_t *id);
+uint8_t zk_raw_open(uint64_t *words, uint8_t *drivers, const uint8_t *id);
+uint8_t zk_raw_close(uint64_t *words, uint8_t *drivers, const uint8_t *id);
+uint8_t zk_raw_assign_adapter(uint64_t *words, uint8_t *drivers, const uint8_t *id, const uint8_t *text, size_t length);
+uint8_t zk_raw_assign_domain(uint64_t *words, uint8_t *drivers, const uint8_t *id, const uint8_t *text, size_t length);
+uint8_t zk_raw_assign_control_domain(uint64_t *words, uint8_t *drivers, const uint8_t *id, const uint8_t *text,
+                                     size_t length);
+uint8_t zk_raw_unassign_adapter(uint64_t *words, uint8_t *drivers, const uint8_t *id, const uint8_t *text, size_t length);
+uint8_t zk_raw_unassign_domain(uint64_t *words, uint8_t *drivers, const uint8_t *id, const uint8_t *text, size_t length);
+uint8_t zk_raw_unassign_control_domain(uint64_t *words, uint8_t *drivers, const uint8_t *id, const uint8_t *text,
+                                       size_t length);
+uint8_t zk_raw_assign_adapter_number(uint64_t *words, uint8_t *drivers, const uint8_t *id, uint64_t number);
+uint8_t zk_raw_assign_domain_number(uint64_t *words, uint8_t *drivers, const uint8_t *id, uint64_t number);
+uint8_t zk_raw_assign_control_domain_number(uint64_t *words, uint8_t *drivers, const uint8_t *id, uint64_t number);
+uint8_t zk_raw_unassign_adapter_number(uint64_t *words, uint8_t *drivers, const uint8_t *id, uint64_t number);
+uint8_t zk_raw_unassign_domain_number(uint64_t *words, uint8_t *drivers, const uint8_t *id, uint64_t number);
+uint8_t zk_raw_unassign_control_domain_number(uint64_t *words, uint8_t *drivers, const uint8_t *id, uint64_t number);
+uint8_t zk_raw_set_apmask(uint64_t *words, uint8_t *drivers, const uint8_t *text, size_t length);
+uint8_t zk_raw_set_aqmask(uint64_t *words, uint8_t *drivers, const uint8_t *text, size_t length);
+uint8_t zk_raw_configure(uint64_t *words, uint8_t *drivers, const uint8_t *configuration);
+uint8_t zk_raw_move(const uint64_t *words, uint8_t *drivers, uint8_t apid, uint8_t apqi);
+uint32_t zk_raw_sweep(const uint64_t *words, uint8_t *drivers, uint32_t budget, uint8_t *more);
+uint32_t zk_raw_remaining(const uint64_t *words, const uint8_t *drivers);
+uint8_t zk_raw_driver(const uint64_t *words, const uint8_t *drivers, uint8_t apid, uint8_t apqi);
+uint8_t zk_raw_target(const uint64_t *words, const uint8_t *drivers, uint8_t apid, uint8_t apqi);
+uint8_t zk_raw_holder(const uint64_t *words, const uint8_t *drivers, uint8_t apid, uint8_t apqi, uint8_t *id);
+uint8_t zk_raw_usable(const uint64_t *words, const uint8_t *drivers, const uint8_t *id, uint8_t apid, uint8_t apqi);
+uint8_t zk_raw_device(const uint64_t *words, const uint8_t *drivers, size_t slot, uint8_t *id, uint8_t *open);
+uint8_t zk_raw_matrix_masks(const uint64_t *words, const uint8_t *drivers, const uint8_t *id, uint8_t *masks);
+uint8_t zk_raw_guest_matrix_masks(const uint64_t *words, const uint8_t *drivers, const uint8_t *id, uint8_t *masks);
+uint8_t zk_raw_matrix(const uint64_t *words, const uint8_t *drivers, const uint8_t *id, size_t place, uint8_t *buffer,
+                      size_t length, size_t *written, size_t *next);
+uint8_t zk_raw_guest_matrix(const uint64_t *words, const uint8_t *drivers, const uint8_t *id, size_t place, uint8_t *buffer,
+                            size_t length, size_t *written, size_t *next);
+uint8_t zk_raw_control_domains(const uint64_t *words, const uint8_t *drivers, const uint8_t *id, uint8_t *text,
+                               size_t *written);
+uint8_t zk_raw_highest_adapter(const uint64_t *words, const uint8_t *drivers);
+uint8_t zk_raw_highest_domain(const uint64_t *words, const uint8_t *drivers);
+void zk_raw_apmask(const uint64_t *words, const uint8_t *drivers, uint8_t *mask);
+void zk_raw_aqmask(const uint64_t *words, const uint8_t *drivers, uint8_t *mask);
+void zk_raw_configuration(const uint64_t *words, const uint8_t *drivers, uint8_t *configuration);
+size_t zk_raw_errno_name(uint64_t value, uint8_t *name);
+size_t zk_raw_moved_name(uint64_t value, uint8_t *name);
 
-/* Writes the name of an errno value, ZK_NAME_BYTES, and answers its length; for any other value nothing, and 0. */
-size_t zk_errno_name(uint8_t value, uint8_t *name);
+/* ---- the record ---- */
+
+/* Makes a fresh record: both host masks all ones, nothing configured, every queue unbound, no device; 0 or EINVAL. */
+static inline int zk_fresh(struct zk_record *record, uint64_t highest_adapter, uint64_t highest_domain)
+{
+    return zk_raw_fresh(record->words, record->drivers, highest_adapter, highest_domain);
+}
+
+/* Answers the limits that the record was made with, 0 to 255. */
+static inline int zk_highest_adapter(const struct zk_record *record)
+{
+    return zk_raw_highest_adapter(record->words, record->drivers);
+}
+
+static inline int zk_highest_domain(const struct zk_record *record)
+{
+    return zk_raw_highest_domain(record->words, record->drivers);
+}
+
+/* ---- the host ---- */
+
+/* Replaces apmask or aqmask; 0, EINVAL or EADDRINUSE. A sweep is due then. */
+static inline int zk_set_apmask(struct zk_record *record, const char *text, size_t length)
+{
+    return zk_raw_set_apmask(record->words, record->drivers, (const uint8_t *)text, length);
+}
+
+static inline int zk_set_aqmask(struct zk_record *record, const char *text, size_t length)
+{
+    return zk_raw_set_aqmask(record->words, record->drivers, (const uint8_t *)text, length);
+}
+
+/* Writes apmask or aqmask, ZK_MASK_BYTES. */
+static inline void zk_apmask(const struct zk_record *record, uint8_t mask[ZK_MASK_BYTES])
+{
+    zk_raw_apmask(record->words, record->drivers, mask);
+}
+
+static inline void zk_aqmask(const struct zk_record *record, uint8_t mask[ZK_MASK_BYTES])
+{
+    zk_raw_aqmask(record->words, record->drivers, mask);
+}
+
+/*
+ * Replaces the configuration: the masks of adapters, usage domains and control domains, then a hardware type for each
+ * adapter, which is kept as 0 where the adapter is not configured. Unbinds each queue that is no longer configured; 0 or
+ * ENODEV. A sweep is due then.
+ */
+static inline int zk_configure(struct zk_record *record, const uint8_t configuration[ZK_CONFIG_BYTES])
+{
+    return zk_raw_configure(record->words, record->drivers, configuration);
+}
+
+/* Writes the configuration in the form that zk_configure takes. */
+static inline void zk_configuration(const struct zk_record *record, uint8_t configuration[ZK_CONFIG_BYTES])
+{
+    zk_raw_configuration(record->words, record->drivers, configuration);
+}
+
+/* ---- queues ---- */
+
+/* Brings one queue a step nearer to its target; answers what it did, ZK_IDLE and so on. */
+static inline int zk_move(struct zk_record *record, uint8_t apid, uint8_t apqi)
+{
+    return zk_raw_move(record->words, record->drivers, apid, apqi);
+}
+
+/* Makes up to `budget` moves by ascending queue; answers those made, and *more is 1 where moves remain, else 0. */
+static inline uint32_t zk_sweep(struct zk_record *record, uint32_t budget, uint8_t *more)
+{
+    return zk_raw_sweep(record->words, record->drivers, budget, more);
+}
+
+/* Answers how many moves are needed until every move is idle. */
+static inline uint32_t zk_remaining(const struct zk_record *record)
+{
+    return zk_raw_remaining(record->words, record->drivers);
+}
+
+/* Answers the driver that a queue has: ZK_UNBOUND, ZK_HOST or ZK_PASSTHROUGH. */
+static inline int zk_driver(const struct zk_record *record, uint8_t apid, uint8_t apqi)
+{
+    return zk_raw_driver(record->words, record->drivers, apid, apqi);
+}
+
+/* Answers the driver that a queue should have. */
+static inline int zk_target(const struct zk_record *record, uint8_t apid, uint8_t apqi)
+{
+    return zk_raw_target(record->words, record->drivers, apid, apqi);
+}
+
+/* Writes the id of the device whose matrix has the queue, open or not, configured or not; 0, or ENOENT where none has. */
+static inline int zk_holder(const struct zk_record *record, uint8_t apid, uint8_t apqi, uint8_t id[ZK_ID_BYTES])
+{
+    return zk_raw_holder(record->words, record->drivers, apid, apqi, id);
+}
+
+/* Answers 1 where the device's guest can use the queue now, else 0, also where there is no such device. */
+static inline int zk_usable(const struct zk_record *record, const uint8_t id[ZK_ID_BYTES], uint8_t apid, uint8_t apqi)
+{
+    return zk_raw_usable(record->words, record->drivers, id, apid, apqi);
+}
+
+/* ---- mediated devices ---- */
+
+/* Creates a device in the lowest free slot, with nothing assigned and not open; 0, EEXIST or ENOSPC. */
+static inline int zk_create(struct zk_record *record, const uint8_t id[ZK_ID_BYTES])
+{
+    return zk_raw_create(record->words, record->drivers, id);
+}
+
+/* Removes a device; 0, ENOENT or EBUSY. */
+static inline int zk_remove(struct zk_record *record, const uint8_t id[ZK_ID_BYTES])
+{
+    return zk_raw_remove(record->words, record->drivers, id);
+}
+
+/* Marks a device as open, as its guest starts; 0, ENOENT or EBUSY. */
+static inline int zk_open(struct zk_record *record, const uint8_t id[ZK_ID_BYTES])
+{
+    return zk_raw_open(record->words, record->drivers, id);
+}
+
+/* Marks a device as not open, as its guest ends; 0, ENOENT or EINVAL. */
+static inline int zk_close(struct zk_record *record, const uint8_t id[ZK_ID_BYTES])
+{
+    return zk_raw_close(record->words, record->drivers, id);
+}
+
+/*
+ * Writes the id of the device in a slot, and 1 or 0 for whether it is open; 0, or ENOENT where no device is there. Slots
+ * from 0 up to ZK_SLOTS have all devices.
+ */
+static inline int zk_device(const struct zk_record *record, size_t slot, uint8_t id[ZK_ID_BYTES], uint8_t *open)
+{
+    return zk_raw_device(record->words, record->drivers, slot, id, open);
+}
+
+/*
+ * Assign a number that is written as text; 0, EINVAL, ENOENT, ENODEV, and for an adapter or a domain that is new
+ * EADDRNOTAVAIL, EADDRINUSE.
+ */
+static inline int zk_assign_adapter(struct zk_record *record, const uint8_t id[ZK_ID_BYTES], const char *text,
+                                    size_t length)
+{
+    return zk_raw_assign_adapter(record->words, record->drivers, id, (const uint8_t *)text, length);
+}
+
+static inline int zk_assign_domain(struct zk_record *record, const uint8_t id[ZK_ID_BYTES], const char *text,
+                                   size_t length)
+{
+    return zk_raw_assign_domain(record->words, record->drivers, id, (const uint8_t *)text, length);
+}
+
+static inline int zk_assign_control_domain(struct zk_record *record, const uint8_t id[ZK_ID_BYTES], const char *text,
+                                           size_t length)
+{
+    return zk_raw_assign_control_domain(record->words, record->drivers, id, (const uint8_t *)text, length);
+}
+
+/* Unassign a number, assigned or not; 0, EINVAL, ENOENT or ENODEV. */
+static inline int zk_unassign_adapter(struct zk_record *record, const uint8_t id[ZK_ID_BYTES], const char *text,
+                                      size_t length)
+{
+    return zk_raw_unassign_adapter(record->words, record->drivers, id, (const uint8_t *)text, length);
+}
+
+static inline int zk_unassign_domain(struct zk_record *record, const uint8_t id[ZK_ID_BYTES], const char *text,
+                                     size_t length)
+{
+    return zk_raw_unassign_domain(record->words, record->drivers, id, (const uint8_t *)text, length);
+}
+
+static inline int zk_unassign_control_domain(struct zk_record *record, const uint8_t id[ZK_ID_BYTES], const char *text,
+                                             size_t length)
+{
+    return zk_raw_unassign_control_domain(record->words, record->drivers, id, (const uint8_t *)text, length);
+}
+
+/* The same by number. There is no text to be bad, so none answers EINVAL; a number above every limit is ENODEV. */
+static inline int zk_assign_adapter_number(struct zk_record *record, const uint8_t id[ZK_ID_BYTES], uint64_t number)
+{
+    return zk_raw_assign_adapter_number(record->words, record->drivers, id, number);
+}
+
+static inline int zk_assign_domain_number(struct zk_record *record, const uint8_t id[ZK_ID_BYTES], uint64_t number)
+{
+    return zk_raw_assign_domain_number(record->words, record->drivers, id, number);
+}
+
+static inline int zk_assign_control_domain_number(struct zk_record *record, const uint8_t id[ZK_ID_BYTES], uint64_t number)
+{
+    return zk_raw_assign_control_domain_number(record->words, record->drivers, id, number);
+}
+
+static inline int zk_unassign_adapter_number(struct zk_record *record, const uint8_t id[ZK_ID_BYTES], uint64_t number)
+{
+    return zk_raw_unassign_adapter_number(record->words, record->drivers, id, number);
+}
+
+static inline int zk_unassign_domain_number(struct zk_record *record, const uint8_t id[ZK_ID_BYTES], uint64_t number)
+{
+    return zk_raw_unassign_domain_number(record->words, record->drivers, id, number);
+}
+
+static inline int zk_unassign_control_domain_number(struct zk_record *record, const uint8_t id[ZK_ID_BYTES], uint64_t number)
+{
+    return zk_raw_unassign_control_domain_number(record->words, record->drivers, id, number);
+}
+
+/* ---- what a device has, and what its guest gets ---- */
+
+/* Writes the three masks of a device's matrix, ZK_MASKS_BYTES; 0 or ENOENT. */
+static inline int zk_matrix_masks(const struct zk_record *record, const uint8_t id[ZK_ID_BYTES],
+                                  uint8_t masks[ZK_MASKS_BYTES])
+{
+    return zk_raw_matrix_masks(record->words, record->drivers, id, masks);
+}
+
+/* The same of its guest_matrix: what its guest gets while the device is open. */
+static inline int zk_guest_matrix_masks(const struct zk_record *record, const uint8_t id[ZK_ID_BYTES],
+                                        uint8_t masks[ZK_MASKS_BYTES])
+{
+    return zk_raw_guest_matrix_masks(record->words, record->drivers, id, masks);
+}
+
+/*
+ * Lists a device's matrix as the kernel does, by ascending queue from a place (APID * 256 + APQI) on, whole lines only, as
+ * many as fit; 0, ENOENT or ENOSPC. *written is the number of bytes; the bytes after them stay as they were. *next is the
+ * place to go on from, and ZK_QUEUES where nothing is left. A refused call leaves both as they were.
+ */
+static inline int zk_matrix(const struct zk_record *record, const uint8_t id[ZK_ID_BYTES], size_t place, char *buffer,
+                            size_t length, size_t *written, size_t *next)
+{
+    return zk_raw_matrix(record->words, record->drivers, id, place, (uint8_t *)buffer, length, written, next);
+}
+
+/* The same of its guest_matrix. */
+static inline int zk_guest_matrix(const struct zk_record *record, const uint8_t id[ZK_ID_BYTES], size_t place, char *buffer,
+                                  size_t length, size_t *written, size_t *next)
+{
+    return zk_raw_guest_matrix(record->words, record->drivers, id, place, (uint8_t *)buffer, length, written, next);
+}
+
+/*
+ * Lists a device's assigned control domains, dddd and a newline each, by ascending number; 0 or ENOENT. *written is the
+ * number of bytes; the bytes after them stay as they were.
+ */
+static inline int zk_control_domains(const struct zk_record *record, const uint8_t id[ZK_ID_BYTES],
+                                     char text[ZK_CONTROL_DOMAINS_BYTES], size_t *written)
+{
+    return zk_raw_control_domains(record->words, record->drivers, id, (uint8_t *)text, written);
+}
+
+/* ---- names ---- */
+
+/* Writes the name of an errno value, as EADDRINUSE, and answers it; the empty string for any other value. */
+static inline const char *zk_errno_name(int value, char name[ZK_NAME_BYTES])
+{
+    if (zk_raw_errno_name((uint64_t)value, (uint8_t *)name) == 0)
+        name[0] = 0;
+    return name;
+}
+
+/* Writes what a move did: idle, released, host or passthrough, and answers it; the empty string for any other value. */
+static inline const char *zk_moved_name(int moved, char name[ZK_NAME_BYTES])
+{
+    if (zk_raw_moved_name((uint64_t)moved, (uint8_t *)name) == 0)
+        name[0] = 0;
+    return name;
+}
 
 #ifdef __cplusplus
 }
