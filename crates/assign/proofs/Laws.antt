@@ -1,170 +1,58 @@
--- What assigning writes and reads, the rule at a slot, and where a number goes.
+-- What is asked by a text is what is asked by its number, and the other way round.
 -- Assumes nothing.
-use Prim.Native.Nat.{ℕ, zero, suc, _+_, _^_, _<_}
-use native.Mathlib.Omega.{arith}
-use mathlib.Core.Bool.{Bool, true, false, cond}
+use Prim.Native.Nat.{ℕ, _≤_}
 use mathlib.Core.List.{List, []}
-use mathlib.Core.Path.{_≡_, refl, sym, ap, ap₂, _∙_}
-use lib.ListN.{getD}
-use lib.Dec.{ltb, leb}
-use borrow.Author.Tests.{ltb-true}
+use mathlib.Core.Path.{_≡_, ap}
 use Rattle.errno.specs.Outcome.{Outcome, granted, refused}
 use Rattle.errno.specs.declared.Errno.{Errno}
-use Rattle.errno.specs.declared.Errno.the-variants.{Enoent, Enodev}
-use Rattle.mask.specs.declared.Mask.{Mask}
-use Rattle.mask.specs.Bits.{Sized, Bits, bits, included}
 use Rattle.number.specs.Text.{numberText}
+use Rattle.numeral.specs.Numeral.{numeral}
+use Rattle.numeral.proofs.Laws.{says}
 use Rattle.rules.specs.declared.Answer.{Answer}
 use Rattle.rules.specs.declared.Answer.the-variants.{Refused}
 use Rattle.rules.specs.declared.Id.{Id}
 use Rattle.rules.specs.declared.Kind.{Kind}
-use Rattle.rules.specs.State.{State, slots}
-use Rattle.rules.specs.Commands.{numbersOf, withNumbers, withDevice, onDevice, slotOf, limitOf, reading, assignAt, adding, paired, assign}
-use Rattle.rules.specs.Refusals.{RefusedExactly}
-use Rattle.rules.proofs.Refusals.{absorbed, refused-exactly}
+use Rattle.rules.specs.State.{State}
+use Rattle.rules.specs.Commands.{slotOf, reading, assign, unassign, assignNumber, unassignNumber}
+use Rattle.rules.proofs.Refusals.{refused-exactly}
 use Rattle.layout.specs.Carried.{CarriedWords}
-use Rattle.layout.specs.Layout.{wordCount, four, maskAt, deviceIn, limitsIn, hostIn, stateIn, wordsOf, putFour, putNumbers, deviceAt, kindAt}
-use Rattle.layout.proofs.Laws.{cond-below, device-there, numbers-there, words-of, put-same, read-numbers, refused-carried, carried-as}
-use Rattle.assign.specs.Numbers.{value, changed, assigned, locatedIn}
-use Rattle.assign.specs.declared.Located.{Located}
-use Rattle.assign.specs.declared.Located.the-variants.{At, Nowhere}
-
--- four of the record's words
-four-words : {ws : List ℕ} → Sized 64 wordCount ws → (k : ℕ) → Sized 64 4 (four ws k)
-four-words {ws} h k = record { long = refl; small = go }
-  where
-    go : (q : ℕ) → getD (four ws k) q 0 < 2 ^ 64
-    go zero = h .small k
-    go (suc zero) = h .small (k + 1)
-    go (suc (suc zero)) = h .small (k + 2)
-    go (suc (suc (suc zero))) = h .small (k + 3)
-    go (suc (suc (suc (suc q)))) = omega arith
-
-module _ (ws : List ℕ) (k : Kind) (p : ℕ) (held : Sized 64 wordCount ws) (there : p < slots) where
-  -- an assigned number leaves the words as they are
-  pub same-words : (n : ℕ) → numbersOf k (deviceIn ws p) n ≡ true → ws ≡ changed ws k p (included n)
-  unfolding changed putNumbers maskAt
-  same-words n e =
-      let at = deviceAt p + kindAt k in
-      sym (ap (λ (m : Bits). putNumbers ws p k (wordsOf m))
-      (absorbed n (numbersOf k (deviceIn ws p)) e ∙ ap (numbersOf k) (device-there ws p there) ∙ numbers-there ws p k)
-      ∙ ap (putNumbers ws p k) (words-of (four-words held at)) ∙ cond-below p slots (putFour ws at (four ws at)) ws there ∙ put-same ws at)
-
-  module _ (f : Bits → Bits) (m : Mask) (words : Sized 64 4 (m .words)) (made : bits m ≡ f (numbersOf k (deviceIn ws p))) where
-    -- the words once a changed mask is put
-    pub put-changed : putNumbers ws p k (m .words) ≡ changed ws k p f
-    unfolding changed
-    put-changed = ap (putNumbers ws p k) (sym (words-of words) ∙ ap wordsOf made)
-
-    -- the record that they hold
-    pub read-changed : (qs : List ℕ) → stateIn (changed ws k p f) qs ≡ withDevice p (withNumbers k (f (numbersOf k (deviceIn ws p))) (deviceIn ws p)) (stateIn ws qs)
-    read-changed qs =
-        ap (λ (l : List ℕ). stateIn l qs) (sym put-changed) ∙ read-numbers ws qs p (held .long) there k (m .words) (words .long)
-        ∙ ap (λ (b : Bits). withDevice p (withNumbers k b (deviceIn ws p)) (stateIn ws qs)) made
-
--- ---- the rule at a slot
-
-module _ (k : Kind) (n p : ℕ) (ws qs : List ℕ) where
-  -- the record with the number assigned
-  abbrev numbered : State
-  numbered = withDevice p (withNumbers k (included n (numbersOf k (deviceIn ws p))) (deviceIn ws p)) (stateIn ws qs)
-
-  -- a number that is assigned
-  pub assigned-already : numbersOf k (deviceIn ws p) n ≡ true → assignAt k n p (stateIn ws qs) ≡ granted (stateIn ws qs)
-  unfolding assignAt stateIn
-  assigned-already e = ap (λ (b : Bool). cond b (granted (stateIn ws qs)) (adding (paired k n (deviceIn ws p)) p (stateIn ws qs) numbered)) e
-
-  -- a new number, by the outcome for the queues that it pairs with
-  pub new-number : (m : Bits) → m ≡ paired k n (deviceIn ws p) → numbersOf k (deviceIn ws p) n ≡ false
-      → {o : Outcome State} → adding m p (stateIn ws qs) numbered ≡ o → assignAt k n p (stateIn ws qs) ≡ o
-  unfolding assignAt stateIn
-  new-number m pairs none h =
-      ap (λ (b : Bool). cond b (granted (stateIn ws qs)) (adding (paired k n (deviceIn ws p)) p (stateIn ws qs) numbered)) none
-      ∙ ap (λ (b : Bits). adding b p (stateIn ws qs) numbered) (sym pairs) ∙ h
-
--- ---- where a number goes
+use Rattle.layout.specs.Layout.{deviceIn, stateIn}
+use Rattle.layout.proofs.Laws.{refused-carried, carried-as}
+use Rattle.assignnumber.specs.Numbers.{assignedTo, unassignedFrom, AssigningNumber}
+use Rattle.assign.specs.Numbers.{value, assigned, unassigned, Assigning}
 
 module _ (k : Kind) (i : Id) (text ws : List ℕ) where
-  -- a rule for the device with the id and the number of the text
-  abbrev asked : (ℕ → ℕ → State → Outcome State) → State → Outcome State
-  asked next s = reading (numberText text) (λ n. onDevice i s (λ p. cond (leb n (limitOf k (s .limits))) (next n p s) (refused Enodev)))
+  -- with demand 2's sentence
+  whole : {vs : List ℕ} {r : Answer} → CarriedWords (assign k i text) (assigned k i text) ws vs r → Assigning k i text ws vs r
+  unfolding stateIn
+  whole {vs} {r} c = record { rule = c; exactly = refused-exactly k i text (stateIn ws []) r (c [] .answer) }
 
-  -- the same where the number goes
-  abbrev placed : (ℕ → ℕ → State → Outcome State) → Located → State → Outcome State
-  placed next (At p n) s = next n p s
-  placed next (Nowhere e) s = refused e
+  -- a text that says the number n
+  module _ (n : ℕ) (t : numberText text ≡ granted n) where
+    pub assigned-by : {vs : List ℕ} {r : Answer} → AssigningNumber k i n ws vs r → Assigning k i text ws vs r
+    unfolding assign reading value
+    assigned-by c = whole (carried-as (assignNumber k i n) (assign k i text) (assignedTo k i n) (assigned k i text) ws (λ qs. rw t) (rw t) (c .rule))
 
-  by-located : (next : ℕ → ℕ → State → Outcome State) (r : Located) → r ≡ locatedIn k i ws (numberText text) → (qs : List ℕ)
-      → asked next (stateIn ws qs) ≡ placed next r (stateIn ws qs)
-  unfolding locatedIn reading onDevice stateIn
-  by-located next r e qs = go (numberText text) ∙ ap (λ (x : Located). placed next x s) (sym e)
-    where
-      s : State
-      s = stateIn ws qs
+    pub unassigned-by : {vs : List ℕ} {r : Answer} → CarriedWords (unassignNumber k i n) (unassignedFrom k i n) ws vs r
+        → CarriedWords (unassign k i text) (unassigned k i text) ws vs r
+    unfolding unassign reading value
+    unassigned-by c = carried-as (unassignNumber k i n) (unassign k i text) (unassignedFrom k i n) (unassigned k i text) ws (λ qs. rw t) (rw t) c
 
-      p : ℕ
-      p = slotOf i (deviceIn ws)
+  -- a text that says none
+  module _ (e : Errno) (t : numberText text ≡ refused e) where
+    pub not-assigned : Assigning k i text ws ws (Refused e)
+    unfolding assign reading
+    not-assigned = whole (refused-carried (assign k i text) (assigned k i text) ws e (λ qs. rw t))
 
-      tests : (n : ℕ) (a b : Bool) → cond a (cond b (next n p s) (refused Enodev)) (refused Enoent)
-          ≡ placed next (cond a (cond b (At p n) (Nowhere Enodev)) (Nowhere Enoent)) s
-      tests n true true = refl
-      tests n true false = refl
-      tests n false b = refl
+    pub not-unassigned : CarriedWords (unassign k i text) (unassigned k i text) ws ws (Refused e)
+    unfolding unassign reading
+    not-unassigned = refused-carried (unassign k i text) (unassigned k i text) ws e (λ qs. rw t)
 
-      go : (o : Outcome ℕ) → reading o (λ n. onDevice i s (λ p. cond (leb n (limitOf k (s .limits))) (next n p s) (refused Enodev)))
-          ≡ placed next (locatedIn k i ws o) s
-      go (granted n) = tests n (ltb p slots) (leb n (limitOf k (limitsIn ws)))
-      go (refused e) = refl
+-- what is done by number is done by the number's own text
+module _ (k : Kind) (i : Id) (n : ℕ) (small : n ≤ 65535) (ws : List ℕ) {vs : List ℕ} {r : Answer} where
+  pub assigned-as-text : AssigningNumber k i n ws vs r → Assigning k i (numeral n) ws vs r
+  assigned-as-text = assigned-by k i (numeral n) ws n (says n small)
 
-  -- a number that goes to slot p
-  pub record Goes (p n : ℕ) : Type 0 where
-    pub slot : p ≡ slotOf i (deviceIn ws)
-    pub number : n ≡ value (numberText text)
-    pub there : p < slots
-
-  pub goes : {p n : ℕ} → At p n ≡ locatedIn k i ws (numberText text) → Goes p n
-  unfolding locatedIn value
-  goes {p} {n} h = go (numberText text) refl h
-    where
-      q : ℕ
-      q = slotOf i (deviceIn ws)
-
-      tests : (m : ℕ) → granted m ≡ numberText text → (a b : Bool) → ltb q slots ≡ a
-          → At p n ≡ cond a (cond b (At q m) (Nowhere Enodev)) (Nowhere Enoent) → Goes p n
-      tests m f true true e h =
-          let s : p ≡ q = cc in
-          let v : n ≡ m = cc in
-          record { slot = s; number = v ∙ ap value f; there = omega (arith, ltb-true q slots e) }
-      tests m f true false e h = let z : _≡_ {A = ℕ} 0 1 = cc in absurd (omega arith)
-      tests m f false b e h = let z : _≡_ {A = ℕ} 0 1 = cc in absurd (omega arith)
-
-      go : (o : Outcome ℕ) → o ≡ numberText text → At p n ≡ locatedIn k i ws o → Goes p n
-      go (granted m) f h = tests m f (ltb q slots) (leb m (limitOf k (limitsIn ws))) refl h
-      go (refused e) f h = let z : _≡_ {A = ℕ} 0 1 = cc in absurd (omega arith)
-
-  -- a rule that is carried out there, or refused
-  pub at-located : (next : ℕ → ℕ → State → Outcome State) (change : ℕ → ℕ → List ℕ → List ℕ) {p n : ℕ} {vs : List ℕ} {r : Answer}
-      → At p n ≡ locatedIn k i ws (numberText text) → CarriedWords (next n p) (change p n) ws vs r
-      → CarriedWords (asked next) (λ l. change (slotOf i (deviceIn l)) (value (numberText text)) l) ws vs r
-  at-located next change {p} {n} e c =
-      carried-as (next n p) (asked next) (change p n) (λ l. change (slotOf i (deviceIn l)) (value (numberText text)) l) ws
-      (by-located next (At p n) e) (ap₂ (λ (j m : ℕ). change j m ws) (sym (goes e .slot)) (sym (goes e .number))) c
-
-  pub not-located : (next : ℕ → ℕ → State → Outcome State) (effect : List ℕ → List ℕ) {e : Errno}
-      → Nowhere e ≡ locatedIn k i ws (numberText text) → CarriedWords (asked next) effect ws ws (Refused e)
-  not-located next effect {e} h = refused-carried (asked next) effect ws e (by-located next (Nowhere e) h)
-
-  -- where it goes, by what the two tests find of a number that was read
-  pub by-tests : (n p : ℕ) → numberText text ≡ granted n → p ≡ slotOf i (deviceIn ws) → {a b : Bool} → ltb p slots ≡ a
-      → leb n (limitOf k (limitsIn ws)) ≡ b
-      → cond a (cond b (At p n) (Nowhere Enodev)) (Nowhere Enoent) ≡ locatedIn k i ws (numberText text)
-  unfolding locatedIn
-  by-tests n p e f ta tb =
-      sym (ap (locatedIn k i ws) e ∙ ap (λ (j : ℕ). cond (ltb j slots) (cond (leb n (limitOf k (limitsIn ws))) (At j n) (Nowhere Enodev)) (Nowhere Enoent)) (sym f)
-      ∙ ap₂ (λ (a b : Bool). cond a (cond b (At p n) (Nowhere Enodev)) (Nowhere Enoent)) ta tb)
-
--- the answer is a refusal exactly where demand 2 says
-pub exact : (k : Kind) (i : Id) (text ws : List ℕ) {vs : List ℕ} {r : Answer} → CarriedWords (assign k i text) (assigned k i text) ws vs r
-    → RefusedExactly k i text (limitsIn ws) (hostIn ws) (deviceIn ws) r
-unfolding stateIn
-exact k i text ws {vs} {r} c = refused-exactly k i text (stateIn ws []) r (c [] .answer)
+  pub unassigned-as-text : CarriedWords (unassignNumber k i n) (unassignedFrom k i n) ws vs r
+      → CarriedWords (unassign k i (numeral n)) (unassigned k i (numeral n)) ws vs r
+  unassigned-as-text = unassigned-by k i (numeral n) ws n (says n small)

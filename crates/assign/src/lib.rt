@@ -1,33 +1,21 @@
-// Assigning adapters, domains and control domains to a device, and taking them away.
+// Assigning adapters, domains and control domains to a device by the text of a number, and taking them away.
 //
-// Rests on errno, mask, number, rules, product, layout, record, store, lookup and admit.
+// Rests on errno, number, rules, layout and assignnumber.
 use errno::Errno;
-use layout::SLOTS;
 use layout::Words;
 use number::Number;
 use rules::Answer;
 use rules::Id;
 use rules::Kind;
-ghost use Prim.Native.Nat.{_<_};
-ghost use mathlib.Core.Path.{_≡_};
-ghost use Rattle.rules.specs.State.{slots};
-ghost use Rattle.rules.specs.Commands.{assignAt, unassignAt};
-ghost use Rattle.layout.specs.Carried.{Obeys};
-ghost use Rattle.assign.specs.Numbers.{Assigns, Unassigns, assignedAt, unassignedAt, locatedOf};
-
-// Where a number goes: a slot and the number, which is in range, or the refusal.
-enum Located {
-    At(usize, u8),
-    Nowhere(Errno),
-}
+ghost use Rattle.assign.specs.Numbers.{Assigns, Unassigns};
 
 // Assigns the number that a text says.
 pub fn assign(words: &mut Words, kind: Kind, id: Id, text: &[u8]) -> Answer
     ensures { λ r. ⌜ Assigns kind id (text .entry) (words .entry) (words .exit) r ⌝ }
 {
-    match locate(words, kind, id, text) {
-        Located::At(slot, number) => assign_at(words, kind, slot, number),
-        Located::Nowhere(e) => Answer::Refused(e),
+    match number::parse(text) {
+        Number::Value(n) => assignnumber::assign(words, kind, id, n),
+        Number::Bad => Answer::Refused(Errno::Einval),
     }
 }
 
@@ -35,58 +23,8 @@ pub fn assign(words: &mut Words, kind: Kind, id: Id, text: &[u8]) -> Answer
 pub fn unassign(words: &mut Words, kind: Kind, id: Id, text: &[u8]) -> Answer
     ensures { λ r. ⌜ Unassigns kind id (text .entry) (words .entry) (words .exit) r ⌝ }
 {
-    match locate(words, kind, id, text) {
-        Located::At(slot, number) => unassign_at(words, kind, slot, number),
-        Located::Nowhere(e) => Answer::Refused(e),
-    }
-}
-
-// Where the number that a text says goes, for the device with an id.
-fn locate(words: &Words, kind: Kind, id: Id, text: &[u8]) -> Located
-    ensures { λ r. ⌜ r ≡ locatedOf kind id (text .entry) (words .entry) ⌝ }
-{
     match number::parse(text) {
-        Number::Value(n) => {
-            let slot = lookup::find(words, id);
-            if SLOTS <= slot {
-                return Located::Nowhere(Errno::Enoent);
-            }
-            if !admit::in_range(words, kind, n) {
-                return Located::Nowhere(Errno::Enodev);
-            }
-            Located::At(slot, (n % 256) as u8)
-        }
-        Number::Bad => Located::Nowhere(Errno::Einval),
+        Number::Value(n) => assignnumber::unassign(words, kind, id, n),
+        Number::Bad => Answer::Refused(Errno::Einval),
     }
-}
-
-// Assigns a number that is in range to the device at a slot.
-fn assign_at(words: &mut Words, kind: Kind, slot: usize, number: u8) -> Answer
-    requires { ⌜ slot < slots ⌝ }
-    ensures { λ r. ⌜ Obeys (assignAt kind number slot) (assignedAt kind slot number) (words .entry) (words .exit) r ⌝ }
-{
-    layout::hold_words(words);
-    let m = record::numbers(words, slot, kind);
-    if m.has(number) {
-        return Answer::Done;
-    }
-    let wanted = admit::paired(words, kind, slot, number);
-    match admit::admitted(words, slot, wanted) {
-        Answer::Refused(e) => Answer::Refused(e),
-        Answer::Done => {
-            store::put_numbers(words, slot, kind, m.with(number));
-            Answer::Done
-        }
-    }
-}
-
-// Takes away a number that is in range from the device at a slot.
-fn unassign_at(words: &mut Words, kind: Kind, slot: usize, number: u8) -> Answer
-    requires { ⌜ slot < slots ⌝ }
-    ensures { λ r. ⌜ Obeys (unassignAt kind number slot) (unassignedAt kind slot number) (words .entry) (words .exit) r ⌝ }
-{
-    layout::hold_words(words);
-    let m = record::numbers(words, slot, kind);
-    store::put_numbers(words, slot, kind, m.without(number));
-    Answer::Done
 }

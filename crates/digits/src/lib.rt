@@ -2,8 +2,9 @@
 //
 // Rests on nothing.
 ghost use mathlib.Core.Path.{_≡_};
+ghost use Prim.Native.Nat.{_%_};
 ghost use lib.ListN.{length};
-ghost use Rattle.digits.specs.Digits.{digitOf, body, startsHex};
+ghost use Rattle.digits.specs.Digits.{digitOf, hexDigit, body, startsHex};
 
 // The length of a text without one final newline.
 pub fn body_len(s: &[u8]) -> usize
@@ -48,4 +49,12 @@ pub fn digit_of(c: u8) -> u8
         }
     }
     16
+}
+
+// The lower-case hex digit of a number below 16; larger ones begin again.
+pub fn hex_digit(n: u8) -> u8
+    ensures { λ r. ⌜ r ≡ hexDigit (n % 16) ⌝ }
+{
+    let d = n % 16;
+    if d < 10 { b'0' + d } else { b'a' - 10 + d }
 }

@@ -4,17 +4,14 @@ use Prim.Native.Nat.{ℕ, zero, suc, _+_, _-_, _/_, _%_}
 use mathlib.Core.Bool.{cond}
 use mathlib.Core.List.{List, [], _∷_, _++_}
 use lib.ListN.{length, take, drop}
-use lib.Dec.{ltb, leb}
+use lib.Dec.{leb}
+use Rattle.digits.specs.Digits.{hexDigit}
 use Rattle.mask.specs.Bits.{Bits}
 use Rattle.rules.specs.State.{queues, apid, apqi}
 
 -- the bytes of a line
 abbrev pub lineSize : ℕ
 lineSize = 8
-
--- a lower-case hex digit
-unfoldable pub hexDigit : ℕ → ℕ
-hexDigit n = cond (ltb n 10) (48 + n) (87 + n)
 
 -- a queue's line: aa.dddd and a newline
 unfoldable pub lineOf : ℕ → List ℕ

@@ -1,6 +1,6 @@
 // The queues of a product as text: a line of eight bytes for each, by ascending queue.
 //
-// Rests on mask, rules and product.
+// Rests on digits, mask, rules and product.
 use mask::Apid;
 use mask::Apqi;
 use product::Product;
@@ -10,7 +10,7 @@ ghost use mathlib.Core.Path.{_≡_};
 ghost use lib.ListN.{length};
 ghost use Rattle.rules.specs.State.{queues};
 ghost use Rattle.product.specs.Meet.{queuesOf};
-ghost use Rattle.lines.specs.Lines.{lineSize, hexDigit, lineOf, withLine};
+ghost use Rattle.lines.specs.Lines.{lineSize, lineOf, withLine};
 ghost use Rattle.lines.specs.Written.{Written};
 
 // The bytes of a line.
@@ -77,20 +77,13 @@ fn line(queue: usize) -> [u8; 8]
     let a = (queue / 256) as u8;
     let d = (queue % 256) as u8;
     [
-        hex_digit(a / 16),
-        hex_digit(a % 16),
+        digits::hex_digit(a / 16),
+        digits::hex_digit(a % 16),
         b'.',
         b'0',
         b'0',
-        hex_digit(d / 16),
-        hex_digit(d % 16),
+        digits::hex_digit(d / 16),
+        digits::hex_digit(d % 16),
         b'\n',
     ]
-}
-
-fn hex_digit(n: u8) -> u8
-    requires { ⌜ n < 16 ⌝ }
-    ensures { λ r. ⌜ r ≡ hexDigit n ⌝ }
-{
-    if n < 10 { b'0' + n } else { b'a' - 10 + n }
 }

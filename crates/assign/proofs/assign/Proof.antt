@@ -1,37 +1,26 @@
--- `assign` meets its contract: the rule where the number goes.
+-- `assign` meets its contract: the number that the text says, or the refusal of bad text.
 -- Assumes nothing.
-use mathlib.Core.Path.{sym, _∙_}
+use mathlib.Core.Path.{sym, ap, _∙_}
 use denote.Ref.{now}
 use borrow.Author.Needs.{needs}
-use Rattle.rules.specs.Commands.{assign, assignAt}
-use Rattle.assign.specs.Numbers.{assigned, assignedAt}
-use Rattle.assign.proofs.Laws.{goes, at-located, not-located, exact}
+use Rattle.errno.specs.declared.Errno.the-variants.{Einval}
+use Rattle.number.specs.Text.{outcome}
+use Rattle.assign.proofs.Laws.{assigned-by, not-assigned}
 use Rattle.assign.proofs.assign.Statement.{statement}
 use Rattle.assign.proofs.assign.Tie as tie
 
-assign-at-requires : tie.Need-assign-at-requires
-assign-at-requires c κs =
-    let a = c .before .before .before .before .before .before .before .args in
-    goes (a .kind) (a .id) (now (a .text)) (a .words .now) (sym (c .before .before .slot .given .1) ∙ c .before .before .before .before .locate .ensures) .there
-
 returns : tie.Need-returns
-unfolding assign
+unfolding outcome
 returns c =
-    let a = c .before .before .before .before .before .before .before .before .args in
-    let done =
-    at-located (a .kind) (a .id) (now (a .text)) (a .words .now) (assignAt (a .kind)) (assignedAt (a .kind))
-    (sym (c .before .before .before .slot .given .1) ∙ c .before .before .before .before .before .locate .ensures) (c .assign-at .ensures) in
-    record { rule = done; exactly = exact (a .kind) (a .id) (now (a .text)) (a .words .now) done }
+    let a = c .before .before .before .before .before .before .before .args in
+    let n = c .before .before .before .n .given in
+    assigned-by (a .kind) (a .id) (now (a .text)) (a .words .now) (n .0 .0) (sym (c .before .before .before .before .before .parse .ensures) ∙ ap outcome (n .1)) (c .assign .ensures)
 
 returns-2 : tie.Need-returns-2
-unfolding assign
+unfolding outcome
 returns-2 c =
-    let a = c .before .before .before .before .before .before .args in
-    let done =
-    not-located (a .kind) (a .id) (now (a .text)) (a .words .now) (assignAt (a .kind)) (assigned (a .kind) (a .id) (now (a .text)))
-    (sym (c .before .e .given .1) ∙ c .before .before .before .locate .ensures) in
-    record { rule = done; exactly = exact (a .kind) (a .id) (now (a .text)) (a .words .now) done }
+    let a = c .before .before .before .before .args in
+    not-assigned (a .kind) (a .id) (now (a .text)) (a .words .now) Einval (sym (c .before .before .parse .ensures) ∙ ap outcome (c .enum-told .given .1))
 
 pub assign-spec : {M : Type 1} → statement M
-assign-spec =
-    tie.close (tie.spec (λ c κs. search needs) (λ c. search needs) assign-at-requires (λ c. search needs) returns returns-2)
+assign-spec = tie.close (tie.spec (λ c κs. search needs) (λ c. search needs) (λ c κs. search needs) (λ c. search needs) returns returns-2)

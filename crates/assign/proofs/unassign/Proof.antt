@@ -1,33 +1,26 @@
--- `unassign` meets its contract: the rule where the number goes.
+-- `unassign` meets its contract: the number that the text says, or the refusal of bad text.
 -- Assumes nothing.
-use mathlib.Core.Path.{sym, _∙_}
+use mathlib.Core.Path.{sym, ap, _∙_}
 use denote.Ref.{now}
 use borrow.Author.Needs.{needs}
-use Rattle.rules.specs.Commands.{unassign, unassignAt}
-use Rattle.assign.specs.Numbers.{unassigned, unassignedAt}
-use Rattle.assign.proofs.Laws.{goes, at-located, not-located}
+use Rattle.errno.specs.declared.Errno.the-variants.{Einval}
+use Rattle.number.specs.Text.{outcome}
+use Rattle.assign.proofs.Laws.{unassigned-by, not-unassigned}
 use Rattle.assign.proofs.unassign.Statement.{statement}
 use Rattle.assign.proofs.unassign.Tie as tie
 
-unassign-at-requires : tie.Need-unassign-at-requires
-unassign-at-requires c κs =
-    let a = c .before .before .before .before .before .before .before .args in
-    goes (a .kind) (a .id) (now (a .text)) (a .words .now) (sym (c .before .before .slot .given .1) ∙ c .before .before .before .before .locate .ensures) .there
-
 returns : tie.Need-returns
-unfolding unassign
+unfolding outcome
 returns c =
-    let a = c .before .before .before .before .before .before .before .before .args in
-    at-located (a .kind) (a .id) (now (a .text)) (a .words .now) (unassignAt (a .kind)) (unassignedAt (a .kind))
-    (sym (c .before .before .before .slot .given .1) ∙ c .before .before .before .before .before .locate .ensures) (c .unassign-at .ensures)
+    let a = c .before .before .before .before .before .before .before .args in
+    let n = c .before .before .before .n .given in
+    unassigned-by (a .kind) (a .id) (now (a .text)) (a .words .now) (n .0 .0) (sym (c .before .before .before .before .before .parse .ensures) ∙ ap outcome (n .1)) (c .unassign .ensures)
 
 returns-2 : tie.Need-returns-2
-unfolding unassign
+unfolding outcome
 returns-2 c =
-    let a = c .before .before .before .before .before .before .args in
-    not-located (a .kind) (a .id) (now (a .text)) (a .words .now) (unassignAt (a .kind)) (unassigned (a .kind) (a .id) (now (a .text)))
-    (sym (c .before .e .given .1) ∙ c .before .before .before .locate .ensures)
+    let a = c .before .before .before .before .args in
+    not-unassigned (a .kind) (a .id) (now (a .text)) (a .words .now) Einval (sym (c .before .before .parse .ensures) ∙ ap outcome (c .enum-told .given .1))
 
 pub unassign-spec : {M : Type 1} → statement M
-unassign-spec =
-    tie.close (tie.spec (λ c κs. search needs) (λ c. search needs) unassign-at-requires (λ c. search needs) returns returns-2)
+unassign-spec = tie.close (tie.spec (λ c κs. search needs) (λ c. search needs) (λ c κs. search needs) (λ c. search needs) returns returns-2)

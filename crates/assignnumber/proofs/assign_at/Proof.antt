@@ -10,11 +10,11 @@ use Rattle.rules.specs.Commands.{assignAt, numbersOf, withDevice, withNumbers}
 use Rattle.layout.specs.Layout.{deviceIn, stateIn}
 use Rattle.layout.proofs.Laws.{refused-carried, done-carried}
 use Rattle.product.specs.Meet.{queuesOf}
-use Rattle.assign.specs.Numbers.{assignedAt}
+use Rattle.assignnumber.specs.Numbers.{assignedAt}
 use Rattle.admit.proofs.Laws.{refused-as, done-as}
-use Rattle.assign.proofs.Laws.{same-words, assigned-already, new-number, put-changed, read-changed}
-use Rattle.assign.proofs.assign_at.Statement.{statement}
-use Rattle.assign.proofs.assign_at.Tie as tie
+use Rattle.assignnumber.proofs.Laws.{same-words, assigned-already, new-number, put-changed, read-changed}
+use Rattle.assignnumber.proofs.assign_at.Statement.{statement}
+use Rattle.assignnumber.proofs.assign_at.Tie as tie
 
 returns : tie.Need-returns
 returns c =

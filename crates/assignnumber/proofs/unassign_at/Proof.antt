@@ -7,10 +7,10 @@ use Rattle.mask.proofs.Laws.{mask-words}
 use Rattle.rules.specs.Commands.{unassignAt, numbersOf, withDevice, withNumbers}
 use Rattle.layout.specs.Layout.{deviceIn, stateIn}
 use Rattle.layout.proofs.Laws.{done-carried}
-use Rattle.assign.specs.Numbers.{unassignedAt}
-use Rattle.assign.proofs.Laws.{put-changed, read-changed}
-use Rattle.assign.proofs.unassign_at.Statement.{statement}
-use Rattle.assign.proofs.unassign_at.Tie as tie
+use Rattle.assignnumber.specs.Numbers.{unassignedAt}
+use Rattle.assignnumber.proofs.Laws.{put-changed, read-changed}
+use Rattle.assignnumber.proofs.unassign_at.Statement.{statement}
+use Rattle.assignnumber.proofs.unassign_at.Tie as tie
 
 returns : tie.Need-returns
 unfolding stateIn
