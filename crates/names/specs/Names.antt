@@ -17,10 +17,15 @@ Nameless value = (e : Errno) → value ≡ numberOf e → ⊥
 abbrev pub CaseOf : ℕ → Errno → Type 0
 CaseOf value r = (e : Errno) → value ≡ numberOf e → r ≡ e
 
--- the name of an errno value: r is its length; for any other number r is 0, and the buffer holds what it held
-pub record NameLeft (value : ℕ) (before after : List ℕ) (r : ℕ) : Type 0 where
-  pub known : (e : Errno) → value ≡ numberOf e → (r ≡ length (nameOf e)) × (after ≡ padded (nameOf e))
-  pub unknown : Nameless value → (r ≡ 0) × (after ≡ before)
+-- the name of what has the value, as names go by `nameOf` and values by `numberOf`: r is its length; where nothing has the value r
+-- is 0, and the buffer holds what it held
+pub record NamedBy {A : Type 0} (numberOf : A → ℕ) (nameOf : A → List ℕ) (value : ℕ) (before after : List ℕ) (r : ℕ) : Type 0 where
+  pub known : (e : A) → value ≡ numberOf e → (r ≡ length (nameOf e)) × (after ≡ padded (nameOf e))
+  pub unknown : ((e : A) → value ≡ numberOf e → ⊥) → (r ≡ 0) × (after ≡ before)
+
+-- the name of an errno value
+abbrev pub NameLeft : ℕ → List ℕ → List ℕ → ℕ → Type 0
+NameLeft value before after r = NamedBy numberOf nameOf value before after r
 
 abbrev pub NameShown : ℕ → RefT (List ℕ) → RefT (List ℕ) → ℕ → Type 0
 NameShown value entry exit r = NameLeft value (now entry) (now exit) r

@@ -6,12 +6,12 @@ use errno::NAME_BYTES;
 ghost use Rattle.names.specs.Names.{CaseOf, NameShown};
 
 // The name of an errno value, padded with zeros, and its length; of any other number nothing, and 0.
-pub fn errno_name(value: u8, out: &mut [u8; NAME_BYTES]) -> usize
+pub fn errno_name(value: u64, out: &mut [u8; NAME_BYTES]) -> usize
     ensures { λ r. ⌜ NameShown value (out .entry) (out .exit) r ⌝ }
 {
     let e = errno_of(value);
     let n = errno::number(e);
-    if n != value {
+    if n as u64 != value {
         return 0;
     }
     let name = errno::name(e);
@@ -21,7 +21,7 @@ pub fn errno_name(value: u8, out: &mut [u8; NAME_BYTES]) -> usize
 }
 
 // The case with an errno value; of any other number the first.
-fn errno_of(value: u8) -> Errno
+fn errno_of(value: u64) -> Errno
     ensures { λ r. ⌜ CaseOf value r ⌝ }
 {
     match value {

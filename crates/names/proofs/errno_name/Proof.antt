@@ -24,4 +24,4 @@ returns-2 c =
 
 pub errno-name-spec : {M : Type 1} → statement M
 errno-name-spec =
-    tie.close (tie.spec (λ c κs. search needs) (λ c κs. search needs) returns (λ c κs. search needs) returns-2)
+    tie.close (tie.spec (λ c κs. search needs) (λ c κs. search needs) (λ c. search needs) returns (λ c κs. search needs) returns-2)
