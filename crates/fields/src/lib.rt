@@ -10,6 +10,9 @@ ghost use Prim.Native.Nat.{_+_, _*_, _<_, _≤_};
 ghost use lib.ListN.{getD};
 ghost use Rattle.fields.specs.Fields.{halfAt, wordAt, idOf, kindOf, maskOf, bytesAt, configurationOf};
 
+// The bytes of an id.
+pub const ID_BYTES: usize = 16;
+
 // The bytes of a configuration: three masks of 32, then 256 hardware types.
 pub const CONFIGURATION_BYTES: usize = 352;
 

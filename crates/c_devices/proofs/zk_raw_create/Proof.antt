@@ -1,0 +1,12 @@
+-- `zk_raw_create` meets its contract.
+-- Assumes nothing.
+use borrow.Author.Needs.{needs}
+use Rattle.served.proofs.Laws.{created-as}
+use Rattle.c_devices.proofs.zk_raw_create.Statement.{statement}
+use Rattle.c_devices.proofs.zk_raw_create.Tie as tie
+
+returns : tie.Need-returns
+returns c = created-as (c .answer-number .ensures) (c .before .before .id-of .ensures) (c .before .create .ensures)
+
+pub zk-raw-create-spec : {M : Type 1} → statement M
+zk-raw-create-spec = tie.close (tie.spec (λ c κs. search needs) (λ c κs. search needs) (λ c κs. search needs) returns)

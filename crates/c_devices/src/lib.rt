@@ -1,0 +1,50 @@
+// The C interface to a record and its devices: fresh, create, remove, open, close. include/zokormendu.h has the declarations.
+//
+// Rests on rules, fields, layout, model, setup, create, devices, request and served.
+use fields::ID_BYTES;
+use layout::Drivers;
+use layout::Words;
+ghost use Rattle.model.specs.Steps.{create, remove, openIt, closeIt};
+ghost use Rattle.served.specs.Served.{idIn, Freshens, Serves};
+
+// Makes the lent memory a fresh record.
+#[no_mangle]
+pub extern "C" fn zk_raw_fresh(
+    words: &mut Words,
+    drivers: &mut Drivers,
+    adapter: u64,
+    domain: u64,
+) -> u8
+    ensures { λ r. ⌜ Freshens adapter domain (words .entry) (words .exit) (drivers .entry) (drivers .exit) r ⌝ }
+{
+    rules::answer_number(setup::fresh(words, drivers, adapter, domain))
+}
+
+// The four of a device's life.
+#[no_mangle]
+pub extern "C" fn zk_raw_create(words: &mut Words, drivers: &mut Drivers, id: &[u8; ID_BYTES]) -> u8
+    ensures { λ r. ⌜ Serves (create (idIn (id .entry))) (words .entry) (words .exit) (drivers .entry) (drivers .exit) r ⌝ }
+{
+    rules::answer_number(create::create(words, fields::id_of(id)))
+}
+
+#[no_mangle]
+pub extern "C" fn zk_raw_remove(words: &mut Words, drivers: &mut Drivers, id: &[u8; ID_BYTES]) -> u8
+    ensures { λ r. ⌜ Serves (remove (idIn (id .entry))) (words .entry) (words .exit) (drivers .entry) (drivers .exit) r ⌝ }
+{
+    rules::answer_number(devices::remove(words, fields::id_of(id)))
+}
+
+#[no_mangle]
+pub extern "C" fn zk_raw_open(words: &mut Words, drivers: &mut Drivers, id: &[u8; ID_BYTES]) -> u8
+    ensures { λ r. ⌜ Serves (openIt (idIn (id .entry))) (words .entry) (words .exit) (drivers .entry) (drivers .exit) r ⌝ }
+{
+    rules::answer_number(devices::open(words, fields::id_of(id)))
+}
+
+#[no_mangle]
+pub extern "C" fn zk_raw_close(words: &mut Words, drivers: &mut Drivers, id: &[u8; ID_BYTES]) -> u8
+    ensures { λ r. ⌜ Serves (closeIt (idIn (id .entry))) (words .entry) (words .exit) (drivers .entry) (drivers .exit) r ⌝ }
+{
+    rules::answer_number(devices::close(words, fields::id_of(id)))
+}

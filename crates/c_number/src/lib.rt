@@ -1,0 +1,81 @@
+// The C interface: assigning and unassigning by number. include/zokormendu.h has the declarations.
+//
+// Rests on rules, fields, layout, served and bynumber.
+use fields::ID_BYTES;
+use layout::Drivers;
+use layout::Words;
+use rules::Kind;
+ghost use Rattle.rules.specs.declared.Kind.the-variants.{Adapter, Domain, Control};
+ghost use Rattle.served.specs.Served.{idIn, AssignsNumber, UnassignsNumber};
+
+#[no_mangle]
+pub extern "C" fn zk_raw_assign_adapter_number(
+    words: &mut Words,
+    drivers: &mut Drivers,
+    id: &[u8; ID_BYTES],
+    number: u64,
+) -> u8
+    ensures { λ r. ⌜ AssignsNumber Adapter (idIn (id .entry)) number (words .entry) (words .exit) (drivers .entry) (drivers .exit) r ⌝ }
+{
+    bynumber::assign(words, drivers, Kind::Adapter, id, number)
+}
+
+#[no_mangle]
+pub extern "C" fn zk_raw_assign_domain_number(
+    words: &mut Words,
+    drivers: &mut Drivers,
+    id: &[u8; ID_BYTES],
+    number: u64,
+) -> u8
+    ensures { λ r. ⌜ AssignsNumber Domain (idIn (id .entry)) number (words .entry) (words .exit) (drivers .entry) (drivers .exit) r ⌝ }
+{
+    bynumber::assign(words, drivers, Kind::Domain, id, number)
+}
+
+#[no_mangle]
+pub extern "C" fn zk_raw_assign_control_domain_number(
+    words: &mut Words,
+    drivers: &mut Drivers,
+    id: &[u8; ID_BYTES],
+    number: u64,
+) -> u8
+    ensures { λ r. ⌜ AssignsNumber Control (idIn (id .entry)) number (words .entry) (words .exit) (drivers .entry) (drivers .exit) r ⌝ }
+{
+    bynumber::assign(words, drivers, Kind::Control, id, number)
+}
+
+#[no_mangle]
+pub extern "C" fn zk_raw_unassign_adapter_number(
+    words: &mut Words,
+    drivers: &mut Drivers,
+    id: &[u8; ID_BYTES],
+    number: u64,
+) -> u8
+    ensures { λ r. ⌜ UnassignsNumber Adapter (idIn (id .entry)) number (words .entry) (words .exit) (drivers .entry) (drivers .exit) r ⌝ }
+{
+    bynumber::unassign(words, drivers, Kind::Adapter, id, number)
+}
+
+#[no_mangle]
+pub extern "C" fn zk_raw_unassign_domain_number(
+    words: &mut Words,
+    drivers: &mut Drivers,
+    id: &[u8; ID_BYTES],
+    number: u64,
+) -> u8
+    ensures { λ r. ⌜ UnassignsNumber Domain (idIn (id .entry)) number (words .entry) (words .exit) (drivers .entry) (drivers .exit) r ⌝ }
+{
+    bynumber::unassign(words, drivers, Kind::Domain, id, number)
+}
+
+#[no_mangle]
+pub extern "C" fn zk_raw_unassign_control_domain_number(
+    words: &mut Words,
+    drivers: &mut Drivers,
+    id: &[u8; ID_BYTES],
+    number: u64,
+) -> u8
+    ensures { λ r. ⌜ UnassignsNumber Control (idIn (id .entry)) number (words .entry) (words .exit) (drivers .entry) (drivers .exit) r ⌝ }
+{
+    bynumber::unassign(words, drivers, Kind::Control, id, number)
+}

@@ -1,0 +1,98 @@
+-- What a caller in C is promised of the functions that write a record. Each promise has the call as a case of a chain, so
+-- `demanded` (calls) holds of whoever calls them in a row.
+-- Assumes nothing.
+use Prim.Native.Nat.{ℕ, min}
+use mathlib.Core.List.{List, []}
+use mathlib.Core.Path.{_≡_}
+use denote.Ref.{now}
+use Rattle.rules.specs.declared.Answer.{Answer}
+use Rattle.rules.specs.declared.Id.{Id}
+use Rattle.rules.specs.declared.Kind.{Kind}
+use Rattle.rules.specs.Commands.{answered, unassignNumber}
+use Rattle.rules.specs.Refusals.{RefusedExactly}
+use Rattle.fields.specs.Fields.{idOf}
+use Rattle.layout.specs.Layout.{limitsIn, hostIn, deviceIn}
+use Rattle.layout.specs.Lent.{Lent}
+use Rattle.layout.specs.Carried.{Memory, memory, read, CarriedWords}
+use Rattle.numeral.specs.Numeral.{numeral}
+use Rattle.assignnumber.specs.Numbers.{AssigningNumber, unassignedFrom}
+use Rattle.sweep.specs.Sweeps.{Sweeping}
+use Rattle.model.specs.Steps.{Command, assign, unassign}
+use Rattle.model.specs.Sweeps.{sweepSteps}
+use Rattle.calls.specs.Calls.{Freshened, Call, Chain}
+use Rattle.encoding.specs.Encoding.{command, move}
+use Rattle.request.specs.Requests.{Stepped}
+use Rattle.shown.specs.Shown.{LentNumber, SweepLeft}
+
+-- r is the errno value of an answer that `promise` holds of; 0 is no refusal
+pub record Numbered (promise : Answer → Type 0) (r : ℕ) : Type 0 where
+  pub outcome : Answer
+  pub kept : promise outcome
+  pub numbered : r ≡ answered outcome
+
+-- the id that is lent
+abbrev pub idIn : Lent → Id
+idIn bytes = idOf (now bytes)
+
+-- ---- on the memory m, which is left as n
+
+-- fresh: accepted, a chain begins; refused, the call is one of a chain that goes on
+pub record FreshServed (a d : ℕ) (m n : Memory) (r : ℕ) : Type 0 where
+  pub made : Numbered (Freshened a d m n) r
+  pub begins : r ≡ 0 → Chain (record { adapter = a; domain = d }) n [] []
+  pub refused : (r ≡ 0 → ⊥) → Call m n [] []
+
+-- assigning the number of a text, with demand 2's sentence
+pub record AssignServed (k : Kind) (i : Id) (text : List ℕ) (m n : Memory) (r : ℕ) : Type 0 where
+  pub step : Stepped (command (assign k i text)) m n r
+  pub exactly : Numbered (RefusedExactly k i text (limitsIn (m .words)) (hostIn (m .words)) (deviceIn (m .words))) r
+
+-- assigning a number, by the rule of a number; in a chain it stands as the number's own text
+pub record NumberAssigned (k : Kind) (i : Id) (x : ℕ) (m n : Memory) (r : ℕ) : Type 0 where
+  pub rule : Numbered (AssigningNumber k i x (m .words) (n .words)) r
+  pub step : Stepped (command (assign k i (numeral x))) m n r
+
+-- unassigning a number
+pub record NumberUnassigned (k : Kind) (i : Id) (x : ℕ) (m n : Memory) (r : ℕ) : Type 0 where
+  pub rule : Numbered (CarriedWords (unassignNumber k i x) (unassignedFrom k i x) (m .words) (n .words)) r
+  pub step : Stepped (command (unassign k i (numeral x))) m n r
+
+-- a sweep with a budget: r is the moves used, and 1 or 0 is left for whether any remain
+pub record SweepServed (b : ℕ) (m n : Memory) (more r : ℕ) : Type 0 where
+  pub left : SweepLeft (Sweeping b (m .words) (m .drivers) (n .drivers)) more r
+  pub words : n .words ≡ m .words
+  pub call : Call m n (sweepSteps b (read m)) []
+
+-- a number as it is taken: one above 65535 is above every limit, as 65535 is
+abbrev pub taken : ℕ → ℕ
+taken n = min n 65535
+
+-- ---- the same of lent memory at entry and at exit
+
+abbrev pub lent : Lent → Lent → Memory
+lent words drivers = memory (now words) (now drivers)
+
+abbrev pub Freshens : ℕ → ℕ → Lent → Lent → Lent → Lent → ℕ → Type 0
+Freshens a d words words′ drivers drivers′ r = FreshServed a d (lent words drivers) (lent words′ drivers′) r
+
+-- a command: its answer, every byte, and the call
+abbrev pub Serves : Command → Lent → Lent → Lent → Lent → ℕ → Type 0
+Serves x words words′ drivers drivers′ r = Stepped (command x) (lent words drivers) (lent words′ drivers′) r
+
+abbrev pub Assigns : Kind → Id → Lent → Lent → Lent → Lent → Lent → ℕ → Type 0
+Assigns k i text words words′ drivers drivers′ r = AssignServed k i (now text) (lent words drivers) (lent words′ drivers′) r
+
+abbrev pub AssignsNumber : Kind → Id → ℕ → Lent → Lent → Lent → Lent → ℕ → Type 0
+AssignsNumber k i x words words′ drivers drivers′ r =
+    NumberAssigned k i (taken x) (lent words drivers) (lent words′ drivers′) r
+
+abbrev pub UnassignsNumber : Kind → Id → ℕ → Lent → Lent → Lent → Lent → ℕ → Type 0
+UnassignsNumber k i x words words′ drivers drivers′ r =
+    NumberUnassigned k i (taken x) (lent words drivers) (lent words′ drivers′) r
+
+-- a move of the queue of an adapter and a domain: what it did, every byte, and the call
+abbrev pub Moves : ℕ → ℕ → Lent → Lent → Lent → ℕ → Type 0
+Moves a d words drivers drivers′ r = Stepped (move a d) (lent words drivers) (lent words drivers′) r
+
+abbrev pub Sweeps : ℕ → Lent → Lent → Lent → LentNumber → ℕ → Type 0
+Sweeps b words drivers drivers′ more r = SweepServed b (lent words drivers) (lent words drivers′) (now more) r
