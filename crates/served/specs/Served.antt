@@ -1,7 +1,7 @@
 -- What a caller in C is promised of the functions that write a record. Each promise has the call as a case of a chain, so
 -- `demanded` (calls) holds of whoever calls them in a row.
 -- Assumes nothing.
-use Prim.Native.Nat.{ℕ, min}
+use Prim.Native.Nat.{ℕ, _+_, _*_, min}
 use mathlib.Core.List.{List, []}
 use mathlib.Core.Path.{_≡_}
 use denote.Ref.{now}
@@ -33,6 +33,10 @@ pub record Numbered (promise : Answer → Type 0) (r : ℕ) : Type 0 where
 -- the id that is lent
 abbrev pub idIn : Lent → Id
 idIn bytes = idOf (now bytes)
+
+-- the queue of an adapter and a domain
+abbrev pub queueWith : ℕ → ℕ → ℕ
+queueWith apid apqi = apid * 256 + apqi
 
 -- ---- on the memory m, which is left as n
 
