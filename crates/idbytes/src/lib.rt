@@ -4,7 +4,7 @@
 use rules::Id;
 ghost use mathlib.Core.Path.{_≡_};
 ghost use Prim.Native.Nat.{_<_};
-ghost use Rattle.idbytes.specs.IdBytes.{idByte, AsBytes};
+ghost use Rattle.idbytes.specs.IdBytes.{wordByte, idByte, AsBytes};
 
 // The bytes of an id.
 pub const ID_BYTES: usize = 16;
@@ -28,7 +28,15 @@ fn byte_at(id: Id, i: usize) -> u8
     ensures { λ r. ⌜ r ≡ idByte id i ⌝ }
 {
     if i < 8 {
-        return ((id.hi >> (56 - 8 * i as u32)) % 256) as u8;
+        return byte_of(id.hi, i);
     }
-    ((id.lo >> (56 - 8 * (i - 8) as u32)) % 256) as u8
+    byte_of(id.lo, i - 8)
+}
+
+// One byte of a word.
+fn byte_of(w: u64, k: usize) -> u8
+    requires { ⌜ k < 8 ⌝ }
+    ensures { λ r. ⌜ r ≡ wordByte w k ⌝ }
+{
+    ((w >> (56 - 8 * k as u32)) % 256) as u8
 }
