@@ -11,3 +11,7 @@ use Rattle.rows.specs.Rows.{row}
 unfoldable pub configurationBytes : Config → List ℕ
 configurationBytes c =
     (maskBytes (c .adapters) ++ (maskBytes (c .domains) ++ maskBytes (c .controls))) ++ row (λ a. min (c .types a) 255) 0 256
+
+-- the bytes of the types; only a private function cites it
+abbrev pub typeBytes : Config → List ℕ
+typeBytes c = row (λ a. min (c .types a) 255) 0 256
