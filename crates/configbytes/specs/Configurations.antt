@@ -12,6 +12,6 @@ unfoldable pub configurationBytes : Config → List ℕ
 configurationBytes c =
     (maskBytes (c .adapters) ++ (maskBytes (c .domains) ++ maskBytes (c .controls))) ++ row (λ a. min (c .types a) 255) 0 256
 
--- the bytes of the types; only a private function cites it
+-- the bytes of the types; only private functions cite it
 abbrev pub typeBytes : Config → List ℕ
 typeBytes c = row (λ a. min (c .types a) 255) 0 256
