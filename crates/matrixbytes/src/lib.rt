@@ -41,7 +41,7 @@ pub fn masks(
 }
 
 // Three masks, one after the other.
-fn put_masks(masks: Masks, out: &mut [u8; MASKS_BYTES])
+pub fn put_masks(masks: Masks, out: &mut [u8; MASKS_BYTES])
     ensures { λ r. ⌜ now (out .exit) ≡ masksBytes masks ⌝ }
 {
     let adapters = masks.adapters;
