@@ -11,20 +11,28 @@ const LIST_BYTES: usize = 8 * QUEUES;
 const MOST_MOVES: u32 = 131_072;
 
 extern "C" {
-    fn zk_fresh(words: *mut u64, drivers: *mut u8, adapter: u64, domain: u64) -> u8;
-    fn zk_create(words: *mut u64, hi: u64, lo: u64) -> u8;
-    fn zk_assign(words: *mut u64, hi: u64, lo: u64, kind: u8, text: *const u8, length: usize) -> u8;
-    fn zk_set_apmask(words: *mut u64, text: *const u8, length: usize) -> u8;
-    fn zk_set_aqmask(words: *mut u64, text: *const u8, length: usize) -> u8;
-    fn zk_configure(words: *mut u64, drivers: *mut u8, configuration: *const u8) -> u8;
-    fn zk_sweep(words: *const u64, drivers: *mut u8, budget: u32, more: *mut u8) -> u32;
-    fn zk_masks(words: *const u64, drivers: *const u8, hi: u64, lo: u64, matrix: u8, masks: *mut u8) -> u8;
-    fn zk_list(
+    fn zk_raw_fresh(words: *mut u64, drivers: *mut u8, adapter: u64, domain: u64) -> u8;
+    fn zk_raw_create(words: *mut u64, drivers: *mut u8, id: *const u8) -> u8;
+    fn zk_raw_assign_adapter(words: *mut u64, drivers: *mut u8, id: *const u8, text: *const u8, length: usize) -> u8;
+    fn zk_raw_assign_domain(words: *mut u64, drivers: *mut u8, id: *const u8, text: *const u8, length: usize) -> u8;
+    fn zk_raw_assign_control_domain(
+        words: *mut u64,
+        drivers: *mut u8,
+        id: *const u8,
+        text: *const u8,
+        length: usize,
+    ) -> u8;
+    fn zk_raw_assign_adapter_number(words: *mut u64, drivers: *mut u8, id: *const u8, number: u64) -> u8;
+    fn zk_raw_assign_domain_number(words: *mut u64, drivers: *mut u8, id: *const u8, number: u64) -> u8;
+    fn zk_raw_set_apmask(words: *mut u64, drivers: *mut u8, text: *const u8, length: usize) -> u8;
+    fn zk_raw_set_aqmask(words: *mut u64, drivers: *mut u8, text: *const u8, length: usize) -> u8;
+    fn zk_raw_configure(words: *mut u64, drivers: *mut u8, configuration: *const u8) -> u8;
+    fn zk_raw_sweep(words: *const u64, drivers: *mut u8, budget: u32, more: *mut u8) -> u32;
+    fn zk_raw_guest_matrix_masks(words: *const u64, drivers: *const u8, id: *const u8, masks: *mut u8) -> u8;
+    fn zk_raw_matrix(
         words: *const u64,
         drivers: *const u8,
-        hi: u64,
-        lo: u64,
-        matrix: u8,
+        id: *const u8,
         place: usize,
         buffer: *mut u8,
         length: usize,
@@ -148,9 +156,19 @@ impl Service {
     #[inline(never)]
     fn assign(&mut self, id: &Id, kind: u8, text: &[u8]) -> u8 {
         let Some(n) = number(text) else { return 22 };
+        self.assign_either(id, kind, n.into())
+    }
+
+    #[inline(never)]
+    fn assign_number(&mut self, id: &Id, kind: u8, n: u64) -> u8 {
+        self.assign_either(id, kind, n)
+    }
+
+    #[inline(always)]
+    fn assign_either(&mut self, id: &Id, kind: u8, n: u64) -> u8 {
         let Some(i) = self.find(id) else { return 2 };
         let limit = if kind == 0 { self.highest_adapter } else { self.highest_domain };
-        if n > limit as u16 {
+        if n > limit as u64 {
             return 19;
         }
         let n = n as u8;
@@ -338,40 +356,69 @@ impl Both {
             service: Service::new(),
             other: vec![0; QUEUES].into_boxed_slice().try_into().unwrap(),
         };
-        assert_eq!(unsafe { zk_fresh(both.words.as_mut_ptr(), both.drivers.as_mut_ptr(), 255, 255) }, 0);
+        let (words, drivers) = both.lend();
+        assert_eq!(unsafe { zk_raw_fresh(words, drivers, 255, 255) }, 0);
         both
     }
 
+    fn lend(&mut self) -> (*mut u64, *mut u8) {
+        (self.words.as_mut_ptr(), self.drivers.as_mut_ptr())
+    }
+
     fn create(&mut self, id: &Id) {
-        let (hi, lo) = halves(id);
-        assert_eq!(unsafe { zk_create(self.words.as_mut_ptr(), hi, lo) }, 0);
+        let (words, drivers) = self.lend();
+        assert_eq!(unsafe { zk_raw_create(words, drivers, id.as_ptr()) }, 0);
         self.service.create(id);
     }
 
     fn assign(&mut self, id: &Id, kind: u8, n: u8) {
-        let (hi, lo) = halves(id);
         let text = format!("{n}");
-        assert_eq!(unsafe { zk_assign(self.words.as_mut_ptr(), hi, lo, kind, text.as_ptr(), text.len()) }, 0);
+        assert_eq!(self.library_assign(id, kind, text.as_bytes()), 0);
         assert_eq!(self.service.assign(id, kind, text.as_bytes()), 0);
+    }
+
+    #[inline(always)]
+    fn library_assign(&mut self, id: &Id, kind: u8, text: &[u8]) -> u8 {
+        let ((words, drivers), id, length) = (self.lend(), id.as_ptr(), text.len());
+        unsafe {
+            match kind {
+                0 => zk_raw_assign_adapter(words, drivers, id, text.as_ptr(), length),
+                1 => zk_raw_assign_domain(words, drivers, id, text.as_ptr(), length),
+                _ => zk_raw_assign_control_domain(words, drivers, id, text.as_ptr(), length),
+            }
+        }
+    }
+
+    #[inline(always)]
+    fn library_assign_number(&mut self, id: &Id, kind: u8, n: u64) -> u8 {
+        let (words, drivers) = self.lend();
+        unsafe {
+            match kind {
+                0 => zk_raw_assign_adapter_number(words, drivers, id.as_ptr(), n),
+                _ => zk_raw_assign_domain_number(words, drivers, id.as_ptr(), n),
+            }
+        }
     }
 
     fn set_masks(&mut self, apmask: Mask, aqmask: Mask) {
         let text = |m: Mask| format!("0x{}", m.0.map(|w| format!("{w:016x}")).concat());
         let (ap, aq) = (text(apmask), text(aqmask));
-        assert_eq!(unsafe { zk_set_apmask(self.words.as_mut_ptr(), ap.as_ptr(), ap.len()) }, 0);
-        assert_eq!(unsafe { zk_set_aqmask(self.words.as_mut_ptr(), aq.as_ptr(), aq.len()) }, 0);
+        let (words, drivers) = self.lend();
+        assert_eq!(unsafe { zk_raw_set_apmask(words, drivers, ap.as_ptr(), ap.len()) }, 0);
+        assert_eq!(unsafe { zk_raw_set_aqmask(words, drivers, aq.as_ptr(), aq.len()) }, 0);
         self.service.apmask = apmask;
         self.service.aqmask = aqmask;
     }
 
     fn configure(&mut self, bytes: &[u8; 352]) {
-        let answer = unsafe { zk_configure(self.words.as_mut_ptr(), self.drivers.as_mut_ptr(), bytes.as_ptr()) };
+        let (words, drivers) = self.lend();
+        let answer = unsafe { zk_raw_configure(words, drivers, bytes.as_ptr()) };
         assert_eq!((answer, self.service.configure(&mut self.other, bytes)), (0, 0));
     }
 
     fn sweep(&mut self) {
-        let mut more = 0;
-        unsafe { zk_sweep(self.words.as_ptr(), self.drivers.as_mut_ptr(), MOST_MOVES, &mut more) };
+        let ((words, drivers), mut more) = (self.lend(), 0);
+        unsafe { zk_raw_sweep(words, drivers, MOST_MOVES, &mut more) };
         self.service.sweep(&mut self.other, MOST_MOVES);
         self.assert_same();
     }
@@ -444,6 +491,7 @@ impl Random {
 struct Command {
     device: u8,
     kind: u8,
+    number: u8,
     length: u8,
     text: [u8; 8],
 }
@@ -459,7 +507,7 @@ fn command(random: &mut Random, device: usize, n: usize) -> Command {
     }
     let mut text = [0; 8];
     text[..spelled.len()].copy_from_slice(spelled.as_bytes());
-    Command { device: device as u8, kind: (device >= 4) as u8, length: spelled.len() as u8, text }
+    Command { device: device as u8, kind: (device >= 4) as u8, number: n as u8, length: spelled.len() as u8, text }
 }
 
 const BATCHES: usize = 1_000;
@@ -475,7 +523,9 @@ const BATCH_IN_USE: usize = 330;
 ///
 /// So a batch of 1,000 has 340 accepted (all of them new: four pairs of 85), 330 refused with 98 and 330 with 99. Before
 /// each of 1,000 batches both sides go back to the state at the start, outside of the timed part.
-fn assigns() {
+///
+/// With BY_NUMBER the same commands are given the number itself.
+fn assigns<const BY_NUMBER: bool>() {
     let mut both = Both::new();
     let mut host = Mask::NONE;
     (170..=255).for_each(|n| host.set(n));
@@ -519,7 +569,6 @@ fn assigns() {
     }
 
     let ids: Vec<Id> = (0..8).map(device_id).collect();
-    let pairs: Vec<(u64, u64)> = ids.iter().map(halves).collect();
     let (words, service) = (both.words.clone(), both.service.clone());
     let (mut answers, mut others) = (vec![0u8; BATCHES * BATCH], vec![0u8; BATCHES * BATCH]);
     let times = best(7, || {
@@ -532,18 +581,24 @@ fn assigns() {
                     both.words.copy_from_slice(&words);
                     times[0] += timed(|| {
                         for (c, answer) in batch.iter().zip(&mut answers[part.clone()]) {
-                            let (hi, lo) = pairs[c.device as usize];
-                            let text = black_box(&c.text).as_ptr();
-                            *answer =
-                                unsafe { zk_assign(both.words.as_mut_ptr(), hi, lo, c.kind, text, c.length as usize) };
+                            let id = &ids[c.device as usize];
+                            *answer = if BY_NUMBER {
+                                both.library_assign_number(id, c.kind, black_box(c.number).into())
+                            } else {
+                                both.library_assign(id, c.kind, &black_box(&c.text)[..c.length as usize])
+                            };
                         }
                     });
                 } else {
                     both.service.devices.clone_from(&service.devices);
                     times[1] += timed(|| {
                         for (c, answer) in batch.iter().zip(&mut others[part.clone()]) {
-                            let text = &black_box(&c.text)[..c.length as usize];
-                            *answer = both.service.assign(&ids[c.device as usize], c.kind, text);
+                            let id = &ids[c.device as usize];
+                            *answer = if BY_NUMBER {
+                                both.service.assign_number(id, c.kind, black_box(c.number).into())
+                            } else {
+                                both.service.assign(id, c.kind, &black_box(&c.text)[..c.length as usize])
+                            };
                         }
                     });
                 }
@@ -560,8 +615,9 @@ fn assigns() {
         [BATCHES * BATCH_ACCEPTED, BATCHES * BATCH_IN_USE, BATCHES * (BATCH - BATCH_ACCEPTED - BATCH_IN_USE)]
     );
     assert!(counts.iter().all(|&n| n >= 300_000));
+    let form = if BY_NUMBER { "by number" } else { "with text" };
     show(
-        &format!("assign with text: {} accepted, {} 98, {} 99", counts[0], counts[1], counts[2]),
+        &format!("assign {form}: {} accepted, {} 98, {} 99", counts[0], counts[1], counts[2]),
         (BATCHES * BATCH) as u32,
         times,
     );
@@ -584,8 +640,8 @@ fn configures() {
         let rattle = timed(|| {
             for k in 0..CALLS {
                 let bytes = black_box(&configurations[k % 2]);
-                let answer =
-                    unsafe { zk_configure(both.words.as_mut_ptr(), both.drivers.as_mut_ptr(), bytes.as_ptr()) };
+                let (words, drivers) = both.lend();
+                let answer = unsafe { zk_raw_configure(words, drivers, bytes.as_ptr()) };
                 assert_eq!(black_box(answer), 0);
             }
         });
@@ -611,10 +667,8 @@ fn sweeps() {
         now = if now == EVERY_OTHER { THE_OTHERS } else { EVERY_OTHER };
         both.set_masks(now, Mask::ALL);
         let (mut used, mut more, mut answer) = (0, 9, (0, true));
-        let rattle = timed(|| {
-            used =
-                unsafe { zk_sweep(both.words.as_ptr(), both.drivers.as_mut_ptr(), black_box(MOST_MOVES), &mut more) };
-        });
+        let (words, drivers) = both.lend();
+        let rattle = timed(|| used = unsafe { zk_raw_sweep(words, drivers, black_box(MOST_MOVES), &mut more) });
         let rust = timed(|| answer = both.service.sweep(&mut both.other, black_box(MOST_MOVES)));
         assert_eq!(((used, more), answer), ((MOST_MOVES, 0), (MOST_MOVES, false)));
         both.assert_same();
@@ -642,7 +696,6 @@ fn whole_matrix() -> (Both, Id) {
 
 fn listings() {
     let (both, id) = whole_matrix();
-    let (hi, lo) = halves(&id);
     let mut buffers = [vec![0u8; LIST_BYTES], vec![0u8; LIST_BYTES]];
     let times = best(25, || {
         let (mut answer, mut written, mut next, mut other) = (9, 9, 9, (9, 9, 9));
@@ -650,7 +703,8 @@ fn listings() {
         let [a, b] = &mut buffers;
         let rattle = timed(|| {
             answer = unsafe {
-                zk_list(words, drivers, hi, lo, 0, black_box(0), a.as_mut_ptr(), LIST_BYTES, &mut written, &mut next)
+                let (id, place, buffer) = (id.as_ptr(), black_box(0), a.as_mut_ptr());
+                zk_raw_matrix(words, drivers, id, place, buffer, LIST_BYTES, &mut written, &mut next)
             };
         });
         let rust = timed(|| other = both.service.list(&id, black_box(0), b));
@@ -664,13 +718,12 @@ fn listings() {
 fn guest_masks() {
     const CALLS: u32 = 20;
     let (both, id) = whole_matrix();
-    let (hi, lo) = halves(&id);
     let (mut a, mut b) = ([0; 96], [1; 96]);
     let times = best(15, || {
         let rattle = timed(|| {
             for _ in 0..CALLS {
                 let (words, drivers) = (black_box(both.words.as_ptr()), black_box(both.drivers.as_ptr()));
-                assert_eq!(unsafe { zk_masks(words, drivers, hi, lo, 1, a.as_mut_ptr()) }, 0);
+                assert_eq!(unsafe { zk_raw_guest_matrix_masks(words, drivers, id.as_ptr(), a.as_mut_ptr()) }, 0);
             }
         });
         let rust = timed(|| {
@@ -685,7 +738,8 @@ fn guest_masks() {
 }
 
 fn main() {
-    assigns();
+    assigns::<false>();
+    assigns::<true>();
     configures();
     sweeps();
     listings();

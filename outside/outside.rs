@@ -1,18 +1,24 @@
 //! Runs the static library beside a second implementation of its requirements, on random commands, moves and sweeps, and
 //! compares every answer and every byte of memory. The second one is written from the requirements, with sets of
-//! booleans and loops over queues, and shares nothing with the library.
+//! booleans and loops over queues, and shares nothing with the library. The library is called through the inline functions
+//! of its header, each of which has a symbol by header.c.
 //!
 //! Arguments: the seed (default 1), the limit in seconds (default 120), and the most steps (default none).
 //! The same seed makes the same steps; the limits only end the run. Exit status 0: nothing differed, and each of the eight
 //! refusals was met.
 
+use std::collections::BTreeMap;
+use std::ffi::c_int;
 use std::fmt;
 use std::time::{Duration, Instant};
 
 const WORDS: usize = 406;
 const QUEUES: usize = 65_536;
 const SLOTS: usize = 8;
+const MASKS_BYTES: usize = 96;
 const CONFIG_BYTES: usize = 352;
+const CONTROLS_BYTES: usize = 1_280;
+const NAME_BYTES: usize = 14;
 const NAMES: [(u8, &str); 8] = [
     (2, "ENOENT"),
     (16, "EBUSY"),
@@ -23,6 +29,7 @@ const NAMES: [(u8, &str); 8] = [
     (98, "EADDRINUSE"),
     (99, "EADDRNOTAVAIL"),
 ];
+const MOVED: [(u8, &str); 4] = [(0, "idle"), (1, "released"), (2, "host"), (3, "passthrough")];
 
 /// Steps of the full phase, after each of which everything that can be asked is asked.
 const FULL_STEPS: u64 = 4_000;
@@ -40,6 +47,11 @@ type Id = [u8; 16];
 const ADAPTER: usize = 0;
 const DOMAIN: usize = 1;
 const CONTROL: usize = 2;
+const KINDS: [&str; 3] = ["adapter", "domain", "control domain"];
+
+/// The two matrices of a device.
+const ASSIGNED: usize = 0;
+const GUEST: usize = 1;
 
 /// A set of numbers 0 to 255.
 #[derive(Clone, Copy)]
@@ -331,7 +343,10 @@ impl Record {
     }
 
     fn assign(&mut self, id: &Id, kind: usize, text: &[u8]) -> u8 {
-        let Some(n) = number(without_newline(text), 65_535) else { return 22 };
+        number(without_newline(text), 65_535).map_or(22, |n| self.assign_number(id, kind, n))
+    }
+
+    fn assign_number(&mut self, id: &Id, kind: usize, n: u64) -> u8 {
         let Some(p) = self.find(id) else { return 2 };
         if n > self.highest(kind) {
             return 19;
@@ -362,7 +377,10 @@ impl Record {
     }
 
     fn unassign(&mut self, id: &Id, kind: usize, text: &[u8]) -> u8 {
-        let Some(n) = number(without_newline(text), 65_535) else { return 22 };
+        number(without_newline(text), 65_535).map_or(22, |n| self.unassign_number(id, kind, n))
+    }
+
+    fn unassign_number(&mut self, id: &Id, kind: usize, n: u64) -> u8 {
         let Some(p) = self.find(id) else { return 2 };
         if n > self.highest(kind) {
             return 19;
@@ -424,6 +442,13 @@ impl Record {
             }
         }
         0
+    }
+
+    /// The configuration in the form in which it is set. Only a handed-in record has a type that is no byte.
+    fn configuration(&self) -> Vec<u8> {
+        let mut bytes: Vec<u8> = self.configured.iter().flat_map(|set| set.bytes()).collect();
+        bytes.extend(self.types.iter().map(|&t| t.min(255) as u8));
+        bytes
     }
 
     /// 0 idle, 1 released, 2 bound to host, 3 bound to passthrough.
@@ -498,15 +523,25 @@ impl Record {
             && self.guest_adapter(p, apid)
     }
 
-    fn matrix(&self, p: usize, matrix: u8) -> [Set; 3] {
-        if matrix == 0 {
+    /// The id of the device whose matrix has a queue: of two, as only a handed-in record has them, the lower slot's.
+    fn holder(&self, apid: usize, apqi: usize) -> Option<Id> {
+        self.devices.iter().find(|v| v.has_queue(apid, apqi)).map(|v| v.id)
+    }
+
+    fn matrix(&self, p: usize, matrix: usize) -> [Set; 3] {
+        if matrix == ASSIGNED {
             self.devices[p].assigned
         } else {
             self.guest(p)
         }
     }
 
-    fn list(&self, id: &Id, matrix: u8, place: usize, length: usize) -> Listing {
+    /// The text that lists a device's control domains.
+    fn controls(&self, p: usize) -> String {
+        (0..256).filter(|&n| self.devices[p].assigned[CONTROL].has(n)).map(|n| format!("{n:04x}\n")).collect()
+    }
+
+    fn list(&self, id: &Id, matrix: usize, place: usize, length: usize) -> Listing {
         let refused = |answer| Listing { answer, bytes: Vec::new(), next: place };
         let Some(p) = self.find(id) else { return refused(2) };
         if length < 8 {
@@ -538,63 +573,118 @@ fn halves(id: &Id) -> (u64, u64) {
 // The library, and the memory that is lent to it.
 // ---------------------------------------------------------------------------------------------------------------------
 
+/// A record as C has it.
+#[repr(C)]
+struct Memory {
+    words: [u64; WORDS],
+    drivers: [u8; QUEUES],
+}
+
+const MEMORY_BYTES: usize = std::mem::size_of::<Memory>();
+const _: () = assert!(MEMORY_BYTES == 68_784);
+
 mod library {
+    use super::Memory;
+    use std::ffi::c_int;
+
     extern "C" {
-        pub fn zk_fresh(words: *mut u64, drivers: *mut u8, adapter: u64, domain: u64) -> u8;
-        pub fn zk_create(words: *mut u64, hi: u64, lo: u64) -> u8;
-        pub fn zk_remove(words: *mut u64, hi: u64, lo: u64) -> u8;
-        pub fn zk_open(words: *mut u64, hi: u64, lo: u64) -> u8;
-        pub fn zk_close(words: *mut u64, hi: u64, lo: u64) -> u8;
-        pub fn zk_assign(words: *mut u64, hi: u64, lo: u64, kind: u8, text: *const u8, length: usize) -> u8;
-        pub fn zk_unassign(words: *mut u64, hi: u64, lo: u64, kind: u8, text: *const u8, length: usize) -> u8;
-        pub fn zk_set_apmask(words: *mut u64, text: *const u8, length: usize) -> u8;
-        pub fn zk_set_aqmask(words: *mut u64, text: *const u8, length: usize) -> u8;
-        pub fn zk_configure(words: *mut u64, drivers: *mut u8, configuration: *const u8) -> u8;
-        pub fn zk_move(words: *const u64, drivers: *mut u8, apid: u8, apqi: u8) -> u8;
-        pub fn zk_remaining(words: *const u64, drivers: *const u8) -> u32;
-        pub fn zk_sweep(words: *const u64, drivers: *mut u8, budget: u32, more: *mut u8) -> u32;
-        pub fn zk_usable(words: *const u64, drivers: *const u8, hi: u64, lo: u64, apid: u8, apqi: u8) -> u8;
-        pub fn zk_masks(words: *const u64, drivers: *const u8, hi: u64, lo: u64, matrix: u8, masks: *mut u8) -> u8;
-        pub fn zk_list(
-            words: *const u64,
-            drivers: *const u8,
-            hi: u64,
-            lo: u64,
-            matrix: u8,
+        pub fn header_fresh(record: *mut Memory, adapter: u64, domain: u64) -> c_int;
+        pub fn header_highest_adapter(record: *const Memory) -> c_int;
+        pub fn header_highest_domain(record: *const Memory) -> c_int;
+        pub fn header_set_apmask(record: *mut Memory, text: *const u8, length: usize) -> c_int;
+        pub fn header_set_aqmask(record: *mut Memory, text: *const u8, length: usize) -> c_int;
+        pub fn header_apmask(record: *const Memory, mask: *mut u8);
+        pub fn header_aqmask(record: *const Memory, mask: *mut u8);
+        pub fn header_configure(record: *mut Memory, configuration: *const u8) -> c_int;
+        pub fn header_configuration(record: *const Memory, configuration: *mut u8);
+        pub fn header_move(record: *mut Memory, apid: u8, apqi: u8) -> c_int;
+        pub fn header_sweep(record: *mut Memory, budget: u32, more: *mut u8) -> u32;
+        pub fn header_remaining(record: *const Memory) -> u32;
+        pub fn header_driver(record: *const Memory, apid: u8, apqi: u8) -> c_int;
+        pub fn header_target(record: *const Memory, apid: u8, apqi: u8) -> c_int;
+        pub fn header_holder(record: *const Memory, apid: u8, apqi: u8, id: *mut u8) -> c_int;
+        pub fn header_usable(record: *const Memory, id: *const u8, apid: u8, apqi: u8) -> c_int;
+        pub fn header_create(record: *mut Memory, id: *const u8) -> c_int;
+        pub fn header_remove(record: *mut Memory, id: *const u8) -> c_int;
+        pub fn header_open(record: *mut Memory, id: *const u8) -> c_int;
+        pub fn header_close(record: *mut Memory, id: *const u8) -> c_int;
+        pub fn header_device(record: *const Memory, slot: usize, id: *mut u8, open: *mut u8) -> c_int;
+        fn header_assign_adapter(record: *mut Memory, id: *const u8, text: *const u8, length: usize) -> c_int;
+        fn header_assign_domain(record: *mut Memory, id: *const u8, text: *const u8, length: usize) -> c_int;
+        fn header_assign_control_domain(record: *mut Memory, id: *const u8, text: *const u8, length: usize) -> c_int;
+        fn header_unassign_adapter(record: *mut Memory, id: *const u8, text: *const u8, length: usize) -> c_int;
+        fn header_unassign_domain(record: *mut Memory, id: *const u8, text: *const u8, length: usize) -> c_int;
+        fn header_unassign_control_domain(record: *mut Memory, id: *const u8, text: *const u8, length: usize) -> c_int;
+        fn header_assign_adapter_number(record: *mut Memory, id: *const u8, number: u64) -> c_int;
+        fn header_assign_domain_number(record: *mut Memory, id: *const u8, number: u64) -> c_int;
+        fn header_assign_control_domain_number(record: *mut Memory, id: *const u8, number: u64) -> c_int;
+        fn header_unassign_adapter_number(record: *mut Memory, id: *const u8, number: u64) -> c_int;
+        fn header_unassign_domain_number(record: *mut Memory, id: *const u8, number: u64) -> c_int;
+        fn header_unassign_control_domain_number(record: *mut Memory, id: *const u8, number: u64) -> c_int;
+        fn header_matrix_masks(record: *const Memory, id: *const u8, masks: *mut u8) -> c_int;
+        fn header_guest_matrix_masks(record: *const Memory, id: *const u8, masks: *mut u8) -> c_int;
+        fn header_matrix(
+            record: *const Memory,
+            id: *const u8,
             place: usize,
             buffer: *mut u8,
             length: usize,
             written: *mut usize,
             next: *mut usize,
-        ) -> u8;
-        pub fn zk_errno_name(value: u8, name: *mut u8) -> usize;
+        ) -> c_int;
+        fn header_guest_matrix(
+            record: *const Memory,
+            id: *const u8,
+            place: usize,
+            buffer: *mut u8,
+            length: usize,
+            written: *mut usize,
+            next: *mut usize,
+        ) -> c_int;
+        pub fn header_control_domains(
+            record: *const Memory,
+            id: *const u8,
+            text: *mut u8,
+            written: *mut usize,
+        ) -> c_int;
+        pub fn header_errno_name(value: c_int, name: *mut u8) -> *const u8;
+        pub fn header_moved_name(moved: c_int, name: *mut u8) -> *const u8;
     }
+
+    // by kind
+
+    pub type ByText = unsafe extern "C" fn(*mut Memory, *const u8, *const u8, usize) -> c_int;
+    pub const ASSIGN: [ByText; 3] = [header_assign_adapter, header_assign_domain, header_assign_control_domain];
+    pub const UNASSIGN: [ByText; 3] = [header_unassign_adapter, header_unassign_domain, header_unassign_control_domain];
+
+    type ByNumber = unsafe extern "C" fn(*mut Memory, *const u8, u64) -> c_int;
+    pub const ASSIGN_NUMBER: [ByNumber; 3] =
+        [header_assign_adapter_number, header_assign_domain_number, header_assign_control_domain_number];
+    pub const UNASSIGN_NUMBER: [ByNumber; 3] =
+        [header_unassign_adapter_number, header_unassign_domain_number, header_unassign_control_domain_number];
+
+    // by matrix
+
+    type Masks = unsafe extern "C" fn(*const Memory, *const u8, *mut u8) -> c_int;
+    pub const MASKS: [(&str, Masks); 2] =
+        [("matrix_masks", header_matrix_masks), ("guest_matrix_masks", header_guest_matrix_masks)];
+
+    type List = unsafe extern "C" fn(*const Memory, *const u8, usize, *mut u8, usize, *mut usize, *mut usize) -> c_int;
+    pub const LIST: [(&str, List); 2] = [("matrix", header_matrix), ("guest_matrix", header_guest_matrix)];
 }
 
 /// Lent memory with guard places on either side.
 struct Lent<T> {
     all: Vec<T>,
-    edges: Vec<T>,
+    /// All of it as it was lent.
+    before: Vec<T>,
 }
 
 impl<T: Copy + PartialEq + fmt::Debug> Lent<T> {
     fn new(inside: &[T], mut guard: impl FnMut() -> T) -> Lent<T> {
-        let edges: Vec<T> = (0..2 * EDGE).map(|_| guard()).collect();
-        let all = [&edges[..EDGE], inside, &edges[EDGE..]].concat();
-        Lent { all, edges }
-    }
-
-    fn len(&self) -> usize {
-        self.all.len() - 2 * EDGE
-    }
-
-    fn inside(&self) -> &[T] {
-        &self.all[EDGE..EDGE + self.len()]
-    }
-
-    fn inside_mut(&mut self) -> &mut [T] {
-        let end = EDGE + self.len();
-        &mut self.all[EDGE..end]
+        let mut edge = || (0..EDGE).map(|_| guard()).collect::<Vec<T>>();
+        let all = [&edge()[..], inside, &edge()[..]].concat();
+        Lent { before: all.clone(), all }
     }
 
     fn lend(&mut self) -> *mut T {
@@ -602,18 +692,19 @@ impl<T: Copy + PartialEq + fmt::Debug> Lent<T> {
         unsafe { self.all.as_mut_ptr().add(EDGE) }
     }
 
-    /// Compares all that was lent, and the guard places.
-    fn compare(&self, name: &str, expected: &[T]) -> Result<(), String> {
-        let got = self.inside();
-        if got != expected {
-            let i = (0..got.len()).find(|&i| got[i] != expected[i]).unwrap();
-            return Err(format!("{name} {i}: {:?}, expected {:?}", got[i], expected[i]));
-        }
-        let end = EDGE + self.len();
-        if self.all[..EDGE] != self.edges[..EDGE] || self.all[end..] != self.edges[EDGE..] {
+    fn compare_guards(&self, name: &str) -> Result<(), String> {
+        let end = self.all.len() - EDGE;
+        if self.all[..EDGE] != self.before[..EDGE] || self.all[end..] != self.before[end..] {
             return Err(format!("{name}: written outside of what was lent"));
         }
         Ok(())
+    }
+
+    /// Compares all that was lent, and the guard places: what is in front now, and the rest, which is as it was.
+    fn compare(&self, name: &str, front: &[T]) -> Result<(), String> {
+        let end = self.all.len() - EDGE;
+        same(name, &self.all[EDGE..end], &[front, &self.before[EDGE + front.len()..end]].concat())?;
+        self.compare_guards(name)
     }
 }
 
@@ -625,8 +716,10 @@ enum Call {
     Remove(Id),
     Open(Id),
     Close(Id),
-    Assign(Id, u8, Vec<u8>),
-    Unassign(Id, u8, Vec<u8>),
+    Assign(Id, usize, Vec<u8>),
+    Unassign(Id, usize, Vec<u8>),
+    AssignNumber(Id, usize, u64),
+    UnassignNumber(Id, usize, u64),
     Apmask(Vec<u8>),
     Aqmask(Vec<u8>),
     Configure(Vec<u8>),
@@ -643,8 +736,14 @@ impl fmt::Display for Call {
             Call::Remove(id) => write!(f, "remove {}", hex(id)),
             Call::Open(id) => write!(f, "open {}", hex(id)),
             Call::Close(id) => write!(f, "close {}", hex(id)),
-            Call::Assign(id, kind, text) => write!(f, "assign {} kind {kind} \"{}\"", hex(id), text.escape_ascii()),
-            Call::Unassign(id, kind, text) => write!(f, "unassign {} kind {kind} \"{}\"", hex(id), text.escape_ascii()),
+            Call::Assign(id, kind, text) => {
+                write!(f, "assign {} {} \"{}\"", hex(id), KINDS[*kind], text.escape_ascii())
+            }
+            Call::Unassign(id, kind, text) => {
+                write!(f, "unassign {} {} \"{}\"", hex(id), KINDS[*kind], text.escape_ascii())
+            }
+            Call::AssignNumber(id, kind, n) => write!(f, "assign {} {} {n}", hex(id), KINDS[*kind]),
+            Call::UnassignNumber(id, kind, n) => write!(f, "unassign {} {} {n}", hex(id), KINDS[*kind]),
             Call::Apmask(text) => write!(f, "apmask \"{}\"", text.escape_ascii()),
             Call::Aqmask(text) => write!(f, "aqmask \"{}\"", text.escape_ascii()),
             Call::Configure(bytes) => write!(f, "configure {}", hex(bytes)),
@@ -654,27 +753,23 @@ impl fmt::Display for Call {
     }
 }
 
-fn kind_of(byte: u8) -> usize {
-    (byte as usize).min(CONTROL)
-}
-
 /// Both sides, and what has been counted.
 struct Run {
     seed: u64,
     random: Random,
     record: Record,
-    words: Lent<u64>,
-    drivers: Lent<u8>,
+    lent: Lent<u64>,
     phase: &'static str,
     steps: u64,
     accepted: u64,
     refused: [u64; 256],
+    /// Of the commands that are given a number, by answer.
+    by_number: [u64; 256],
     moves: [u64; 4],
     sweeps: u64,
     swept: u64,
-    views: u64,
-    usables: u64,
-    view_refused: [u64; 256],
+    /// How often each reader gave each answer. A name counts as 1. What is not of a few values counts as 0.
+    asked: BTreeMap<&'static str, BTreeMap<c_int, u64>>,
     fresh: u64,
     handed_in: u64,
     pokes: u64,
@@ -688,49 +783,62 @@ fn equal<T: PartialEq + fmt::Debug>(name: &str, got: T, expected: T) -> Result<(
     }
 }
 
+/// Two of equal length.
+fn same<T: PartialEq + fmt::Debug>(name: &str, got: &[T], expected: &[T]) -> Result<(), String> {
+    if got == expected {
+        return Ok(());
+    }
+    let i = (0..got.len()).find(|&i| got[i] != expected[i]).unwrap();
+    Err(format!("{name} {i}: {:?}, expected {:?}", got[i], expected[i]))
+}
+
 impl Run {
     fn new(seed: u64) -> Run {
         let mut random = Random::new(seed);
-        let words = Lent::new(&[0; WORDS], || random.next());
-        let drivers = Lent::new(&[0; QUEUES], || random.next() as u8);
+        let lent = Lent::new(&[0; MEMORY_BYTES / 8], || random.next());
         Run {
             seed,
             record: Record::read(&[0; WORDS], &[0; QUEUES]),
             random,
-            words,
-            drivers,
+            lent,
             phase: "start",
             steps: 0,
             accepted: 0,
             refused: [0; 256],
+            by_number: [0; 256],
             moves: [0; 4],
             sweeps: 0,
             swept: 0,
-            views: 0,
-            usables: 0,
-            view_refused: [0; 256],
+            asked: BTreeMap::new(),
             fresh: 0,
             handed_in: 0,
             pokes: 0,
         }
     }
 
+    fn memory(&mut self) -> *mut Memory {
+        self.lent.lend().cast()
+    }
+
     /// Hands in other contents, to both.
     fn hand_in(&mut self, words: &[u64], drivers: &[u8]) {
-        self.words.inside_mut().copy_from_slice(words);
-        self.drivers.inside_mut().copy_from_slice(drivers);
+        let memory = unsafe { &mut *self.memory() };
+        memory.words.copy_from_slice(words);
+        memory.drivers.copy_from_slice(drivers);
         self.record = Record::read(words, drivers);
     }
 
-    fn compare_memory(&self) -> Result<(), String> {
-        self.words.compare("word", &self.record.words())?;
-        self.drivers.compare("driver", &self.record.drivers)
+    fn compare_memory(&mut self) -> Result<(), String> {
+        let memory = unsafe { &*self.memory() };
+        same("word", &memory.words, &self.record.words())?;
+        same("driver", &memory.drivers, &self.record.drivers)?;
+        self.lent.compare_guards("record")
     }
 
-    /// A text with text around it, so that a reader that goes too far reads something else.
-    fn lend_text(&mut self, text: &[u8]) -> Lent<u8> {
+    /// Bytes with text around them, so that a reader that goes too far reads something else.
+    fn lend(&mut self, bytes: &[u8]) -> Lent<u8> {
         let random = &mut self.random;
-        Lent::new(text, || *random.pick(b"0123456789abcdefx,+-\n"))
+        Lent::new(bytes, || *random.pick(b"0123456789abcdefx,+-\n"))
     }
 
     fn lend_junk(&mut self, length: usize) -> Lent<u8> {
@@ -739,78 +847,95 @@ impl Run {
         Lent::new(&junk, || random.next() as u8)
     }
 
+    /// A place for a number.
+    fn lend_size(&mut self) -> Lent<usize> {
+        let random = &mut self.random;
+        Lent::new(&[random.next() as usize], || random.next() as usize)
+    }
+
+    /// Makes a call that is lent the record and bytes to read: an id, a text or a configuration.
+    fn lending(&mut self, bytes: &[u8], call: impl FnOnce(*mut Memory, *const u8) -> c_int) -> Result<c_int, String> {
+        let mut lent = self.lend(bytes);
+        let got = call(self.memory(), lent.lend());
+        lent.compare("byte to read", bytes)?;
+        Ok(got)
+    }
+
+    /// The same of one that is lent an id and a text.
+    fn lending_text(&mut self, id: &Id, text: &[u8], call: library::ByText) -> Result<c_int, String> {
+        let mut lent = self.lend(text);
+        let got = self.lending(id, |r, id| unsafe { call(r, id, lent.lend(), text.len()) })?;
+        lent.compare("text byte", text)?;
+        Ok(got)
+    }
+
     /// Makes a call on both sides and compares. Answers what was answered.
-    fn call(&mut self, call: &Call) -> Result<u32, String> {
+    fn call(&mut self, call: &Call) -> Result<i64, String> {
         self.steps += 1;
         let result = self.try_call(call);
         result.map_err(|what| format!("{call}: {what}"))
     }
 
-    fn try_call(&mut self, call: &Call) -> Result<u32, String> {
-        let (w, q) = (self.words.lend(), self.drivers.lend());
-        let (got, expected): (u32, u32) = match call {
+    fn try_call(&mut self, call: &Call) -> Result<i64, String> {
+        let (got, expected): (i64, i64) = match call {
             Call::Fresh(a, d) => {
-                let got = unsafe { library::zk_fresh(w, q, *a, *d) };
+                let got = unsafe { library::header_fresh(self.memory(), *a, *d) };
                 (got.into(), self.record.fresh(*a, *d).into())
             }
             Call::Create(id) => {
-                let (hi, lo) = halves(id);
-                (unsafe { library::zk_create(w, hi, lo) }.into(), self.record.create(id).into())
+                let got = self.lending(id, |r, id| unsafe { library::header_create(r, id) })?;
+                (got.into(), self.record.create(id).into())
             }
             Call::Remove(id) => {
-                let (hi, lo) = halves(id);
-                (unsafe { library::zk_remove(w, hi, lo) }.into(), self.record.remove(id).into())
+                let got = self.lending(id, |r, id| unsafe { library::header_remove(r, id) })?;
+                (got.into(), self.record.remove(id).into())
             }
             Call::Open(id) => {
-                let (hi, lo) = halves(id);
-                (unsafe { library::zk_open(w, hi, lo) }.into(), self.record.open(id).into())
+                let got = self.lending(id, |r, id| unsafe { library::header_open(r, id) })?;
+                (got.into(), self.record.open(id).into())
             }
             Call::Close(id) => {
-                let (hi, lo) = halves(id);
-                (unsafe { library::zk_close(w, hi, lo) }.into(), self.record.close(id).into())
+                let got = self.lending(id, |r, id| unsafe { library::header_close(r, id) })?;
+                (got.into(), self.record.close(id).into())
             }
             Call::Assign(id, kind, text) => {
-                let (hi, lo) = halves(id);
-                let mut lent = self.lend_text(text);
-                let got = unsafe { library::zk_assign(w, hi, lo, *kind, lent.lend(), text.len()) };
-                lent.compare("text byte", text)?;
-                (got.into(), self.record.assign(id, kind_of(*kind), text).into())
+                let got = self.lending_text(id, text, library::ASSIGN[*kind])?;
+                (got.into(), self.record.assign(id, *kind, text).into())
             }
             Call::Unassign(id, kind, text) => {
-                let (hi, lo) = halves(id);
-                let mut lent = self.lend_text(text);
-                let got = unsafe { library::zk_unassign(w, hi, lo, *kind, lent.lend(), text.len()) };
-                lent.compare("text byte", text)?;
-                (got.into(), self.record.unassign(id, kind_of(*kind), text).into())
+                let got = self.lending_text(id, text, library::UNASSIGN[*kind])?;
+                (got.into(), self.record.unassign(id, *kind, text).into())
+            }
+            Call::AssignNumber(id, kind, n) => {
+                let got = self.lending(id, |r, id| unsafe { library::ASSIGN_NUMBER[*kind](r, id, *n) })?;
+                (got.into(), self.record.assign_number(id, *kind, *n).into())
+            }
+            Call::UnassignNumber(id, kind, n) => {
+                let got = self.lending(id, |r, id| unsafe { library::UNASSIGN_NUMBER[*kind](r, id, *n) })?;
+                (got.into(), self.record.unassign_number(id, *kind, *n).into())
             }
             Call::Apmask(text) => {
-                let mut lent = self.lend_text(text);
-                let got = unsafe { library::zk_set_apmask(w, lent.lend(), text.len()) };
-                lent.compare("text byte", text)?;
+                let got = self.lending(text, |r, t| unsafe { library::header_set_apmask(r, t, text.len()) })?;
                 (got.into(), self.record.set_apmask(text).into())
             }
             Call::Aqmask(text) => {
-                let mut lent = self.lend_text(text);
-                let got = unsafe { library::zk_set_aqmask(w, lent.lend(), text.len()) };
-                lent.compare("text byte", text)?;
+                let got = self.lending(text, |r, t| unsafe { library::header_set_aqmask(r, t, text.len()) })?;
                 (got.into(), self.record.set_aqmask(text).into())
             }
             Call::Configure(bytes) => {
-                let mut lent = self.lend_text(bytes);
-                let got = unsafe { library::zk_configure(w, q, lent.lend()) };
-                lent.compare("configuration byte", bytes)?;
+                let got = self.lending(bytes, |r, b| unsafe { library::header_configure(r, b) })?;
                 (got.into(), self.record.configure(bytes).into())
             }
             Call::Move(apid, apqi) => {
-                let got = unsafe { library::zk_move(w, q, *apid, *apqi) };
+                let got = unsafe { library::header_move(self.memory(), *apid, *apqi) };
                 (got.into(), self.record.move_queue(*apid as usize, *apqi as usize).into())
             }
             Call::Sweep(budget) => {
                 let mut more = self.lend_junk(1);
-                let got = unsafe { library::zk_sweep(w, q, *budget, more.lend()) };
+                let got = unsafe { library::header_sweep(self.memory(), *budget, more.lend()) };
                 let (used, any) = self.record.sweep(*budget);
                 more.compare("more", &[any as u8])?;
-                (got, used)
+                (got.into(), used.into())
             }
         };
         equal("answer", got, expected)?;
@@ -824,98 +949,172 @@ impl Run {
             _ if got == 0 => self.accepted += 1,
             _ => self.refused[got as usize] += 1,
         }
+        if let Call::AssignNumber(..) | Call::UnassignNumber(..) = call {
+            self.by_number[got as usize] += 1;
+        }
         Ok(got)
+    }
+
+    /// Counts what a reader answered.
+    fn count(&mut self, reader: &'static str, answer: c_int) {
+        *self.asked.entry(reader).or_default().entry(answer).or_default() += 1;
+    }
+
+    /// Compares what a reader answered, and counts it.
+    fn answered(&mut self, reader: &'static str, got: c_int, expected: c_int) -> Result<(), String> {
+        self.count(reader, got);
+        equal(reader, got, expected)
     }
 
     fn view_remaining(&mut self) -> Result<u32, String> {
-        self.views += 1;
-        let got = unsafe { library::zk_remaining(self.words.lend(), self.drivers.lend()) };
+        let got = unsafe { library::header_remaining(self.memory()) };
         equal("remaining", got, self.record.remaining())?;
+        self.count("remaining", 0);
         self.compare_memory()?;
         Ok(got)
     }
 
-    fn view_masks(&mut self, id: &Id, matrix: u8) -> Result<(), String> {
-        self.views += 1;
-        let (hi, lo) = halves(id);
-        let mut lent = self.lend_junk(96);
-        let before = lent.inside().to_vec();
-        let got = unsafe { library::zk_masks(self.words.lend(), self.drivers.lend(), hi, lo, matrix, lent.lend()) };
-        let (answer, bytes) = match self.record.find(id) {
-            None => (2, before),
-            Some(p) => (0, self.record.matrix(p, matrix).iter().flat_map(|set| set.bytes()).collect()),
-        };
-        equal("masks: answer", got, answer)?;
-        lent.compare("masks: byte", &bytes)?;
-        self.view_refused[got as usize] += 1;
+    fn view_limits(&mut self) -> Result<(), String> {
+        let memory = self.memory();
+        let got = unsafe { [library::header_highest_adapter(memory), library::header_highest_domain(memory)] };
+        equal("limits", got, [ADAPTER, DOMAIN].map(|kind| self.record.highest(kind) as c_int))?;
+        self.count("highest_adapter", 0);
+        self.count("highest_domain", 0);
+        Ok(())
+    }
+
+    /// Asks for the host masks and the configuration.
+    fn view_host(&mut self) -> Result<(), String> {
+        type Write = unsafe extern "C" fn(*const Memory, *mut u8);
+        let parts: [(&str, Write, Vec<u8>); 3] = [
+            ("apmask", library::header_apmask, self.record.apmask.bytes().to_vec()),
+            ("aqmask", library::header_aqmask, self.record.aqmask.bytes().to_vec()),
+            ("configuration", library::header_configuration, self.record.configuration()),
+        ];
+        for (reader, write, bytes) in parts {
+            let mut lent = self.lend_junk(bytes.len());
+            unsafe { write(self.memory(), lent.lend()) };
+            lent.compare(reader, &bytes)?;
+            self.count(reader, 0);
+        }
         self.compare_memory()
     }
 
-    fn view_list(&mut self, id: &Id, matrix: u8, place: usize, length: usize) -> Result<(usize, usize), String> {
-        self.views += 1;
-        let (hi, lo) = halves(id);
-        let mut buffer = self.lend_junk(length);
-        let mut expected = buffer.inside().to_vec();
-        let random = &mut self.random;
-        let before = [random.next() as usize, random.next() as usize];
-        let mut written = Lent::new(&before[..1], || random.next() as usize);
-        let mut next = Lent::new(&before[1..], || random.next() as usize);
-        let got = unsafe {
-            library::zk_list(
-                self.words.lend(),
-                self.drivers.lend(),
-                hi,
-                lo,
-                matrix,
-                place,
-                buffer.lend(),
-                length,
-                written.lend(),
-                next.lend(),
-            )
-        };
-        let what = |e| format!("list, matrix {matrix}, place {place}, buffer {length}: {e}");
-        let listing = self.record.list(id, matrix, place, length);
-        expected[..listing.bytes.len()].copy_from_slice(&listing.bytes);
-        equal("answer", got, listing.answer).map_err(what)?;
-        buffer.compare("byte", &expected).map_err(what)?;
-        let after = if got == 0 { [listing.bytes.len(), listing.next] } else { before };
-        written.compare("written", &after[..1]).map_err(what)?;
-        next.compare("next", &after[1..]).map_err(what)?;
-        self.view_refused[got as usize] += 1;
-        self.compare_memory()?;
-        Ok((listing.bytes.len(), listing.next))
+    /// Asks for the device of every slot, and beyond the slots, also where sixteen words a slot come round to slot 0.
+    fn view_slots(&mut self) -> Result<(), String> {
+        for slot in (0..SLOTS).chain([SLOTS, SLOTS + 1, 256, 1 << 32, 1 << 60, usize::MAX]) {
+            let (mut id, mut open) = (self.lend_junk(16), self.lend_junk(1));
+            let got = unsafe { library::header_device(self.memory(), slot, id.lend(), open.lend()) };
+            let (answer, written, flag) = match self.record.devices.get(slot) {
+                Some(device) if device.present != 0 => (0, device.id.to_vec(), vec![(device.open != 0) as u8]),
+                _ => (2, Vec::new(), Vec::new()),
+            };
+            let what = |e| format!("slot {slot}: {e}");
+            self.answered("device", got, answer).map_err(what)?;
+            id.compare("id byte", &written).map_err(what)?;
+            open.compare("open", &flag).map_err(what)?;
+        }
+        self.compare_memory()
     }
 
-    fn view_usable(&mut self, id: &Id, apid: u8, apqi: u8) -> Result<(), String> {
-        self.usables += 1;
-        let (hi, lo) = halves(id);
-        let got = unsafe { library::zk_usable(self.words.lend(), self.drivers.lend(), hi, lo, apid, apqi) };
-        let expected = self.record.usable(id, apid as usize, apqi as usize) as u8;
-        if got != expected {
-            return Err(format!("usable, device {id:02x?}, queue {apid}, {apqi}: {got}, expected {expected}"));
+    /// Asks for the names of a number. One that has none gets the empty string, of which only the zero is written.
+    fn view_names(&mut self, value: c_int) -> Result<(), String> {
+        type Name = unsafe extern "C" fn(c_int, *mut u8) -> *const u8;
+        let tables: [(&str, Name, &[(u8, &str)]); 2] =
+            [("errno_name", library::header_errno_name, &NAMES), ("moved_name", library::header_moved_name, &MOVED)];
+        for (reader, name, table) in tables {
+            let mut lent = self.lend_junk(NAME_BYTES);
+            let place = lent.lend();
+            let got = unsafe { name(value, place) };
+            let named = table.iter().find(|(v, _)| c_int::from(*v) == value);
+            let mut bytes = vec![0];
+            if let Some((_, name)) = named {
+                bytes = name.as_bytes().to_vec();
+                bytes.resize(NAME_BYTES, 0);
+            }
+            equal(reader, got, place)?;
+            lent.compare(&format!("{reader} of {value}: byte"), &bytes)?;
+            self.count(reader, named.is_some().into());
         }
         Ok(())
     }
 
-    fn view_name(&mut self, value: u8) -> Result<(), String> {
-        self.views += 1;
-        let mut lent = self.lend_junk(14);
-        let before = lent.inside().to_vec();
-        let got = unsafe { library::zk_errno_name(value, lent.lend()) };
-        let (length, bytes) = match NAMES.iter().find(|(v, _)| *v == value) {
-            None => (0, before),
-            Some((_, name)) => {
-                let mut padded = name.as_bytes().to_vec();
-                padded.resize(14, 0);
-                (name.len(), padded)
-            }
-        };
-        equal("errno name: length", got, length)?;
-        lent.compare("errno name: byte", &bytes)
+    /// Asks for everything of the record that takes no id and no queue.
+    fn view_record(&mut self) -> Result<(), String> {
+        self.view_remaining()?;
+        self.view_limits()?;
+        self.view_host()?;
+        self.view_slots()?;
+        let value = some_int(&mut self.random);
+        self.view_names(value)
     }
 
-    fn list_randomly(&mut self, id: &Id, pool: &Pool, matrix: u8) -> Result<(), String> {
+    fn view_masks(&mut self, id: &Id, matrix: usize) -> Result<(), String> {
+        let (reader, read) = library::MASKS[matrix];
+        let mut masks = self.lend_junk(MASKS_BYTES);
+        let got = self.lending(id, |r, id| unsafe { read(r, id, masks.lend()) })?;
+        let (answer, bytes) = match self.record.find(id) {
+            None => (2, Vec::new()),
+            Some(p) => (0, self.record.matrix(p, matrix).iter().flat_map(|set| set.bytes()).collect()),
+        };
+        self.answered(reader, got, answer)?;
+        masks.compare(reader, &bytes)?;
+        self.compare_memory()
+    }
+
+    /// Answers the next place.
+    fn view_list(&mut self, id: &Id, matrix: usize, place: usize, length: usize) -> Result<usize, String> {
+        let (reader, read) = library::LIST[matrix];
+        let mut buffer = self.lend_junk(length);
+        let (mut written, mut next) = (self.lend_size(), self.lend_size());
+        let got = self
+            .lending(id, |r, id| unsafe { read(r, id, place, buffer.lend(), length, written.lend(), next.lend()) })?;
+        let what = |e| format!("{reader}, place {place}, buffer {length}: {e}");
+        let listing = self.record.list(id, matrix, place, length);
+        self.answered(reader, got, listing.answer.into()).map_err(what)?;
+        buffer.compare("byte", &listing.bytes).map_err(what)?;
+        written.compare("written", (got == 0).then_some(listing.bytes.len()).as_slice()).map_err(what)?;
+        next.compare("next", (got == 0).then_some(listing.next).as_slice()).map_err(what)?;
+        self.compare_memory()?;
+        Ok(listing.next)
+    }
+
+    fn view_controls(&mut self, id: &Id) -> Result<(), String> {
+        let (mut text, mut written) = (self.lend_junk(CONTROLS_BYTES), self.lend_size());
+        let got =
+            self.lending(id, |r, id| unsafe { library::header_control_domains(r, id, text.lend(), written.lend()) })?;
+        let (answer, lines) = match self.record.find(id) {
+            None => (2, String::new()),
+            Some(p) => (0, self.record.controls(p)),
+        };
+        self.answered("control_domains", got, answer)?;
+        text.compare("control domains: byte", lines.as_bytes())?;
+        written.compare("control domains: written", (got == 0).then_some(lines.len()).as_slice())?;
+        self.compare_memory()
+    }
+
+    /// Asks for everything of one queue, and whether the guest of a device can use it.
+    fn view_queue(&mut self, id: &Id, queue: usize) -> Result<(), String> {
+        let (a, d) = (queue / 256, queue % 256);
+        let (apid, apqi) = (a as u8, d as u8);
+        let what = |e| format!("device {id:02x?}, queue {a}, {d}: {e}");
+        let usable = self.lending(id, |r, id| unsafe { library::header_usable(r, id, apid, apqi) })?;
+        self.answered("usable", usable, self.record.usable(id, a, d).into()).map_err(what)?;
+        let driver = unsafe { library::header_driver(self.memory(), apid, apqi) };
+        self.answered("driver", driver, self.record.driver(a, d) as c_int).map_err(what)?;
+        let target = unsafe { library::header_target(self.memory(), apid, apqi) };
+        self.answered("target", target, self.record.target(a, d) as c_int).map_err(what)?;
+        let mut holder = self.lend_junk(16);
+        let got = unsafe { library::header_holder(self.memory(), apid, apqi, holder.lend()) };
+        let (answer, bytes) = match self.record.holder(a, d) {
+            None => (2, Vec::new()),
+            Some(id) => (0, id.to_vec()),
+        };
+        self.answered("holder", got, answer).map_err(what)?;
+        holder.compare("holder: byte", &bytes).map_err(what)
+    }
+
+    fn list_randomly(&mut self, id: &Id, pool: &Pool, matrix: usize) -> Result<(), String> {
         let place = match self.random.below(8) {
             0..=2 => 0,
             3 => self.random.below(65_536) as usize,
@@ -935,25 +1134,26 @@ impl Run {
         Ok(())
     }
 
-    /// Asks for everything of one device: masks, listings, and a number of queues.
+    /// Asks for everything of one device: masks, listings, control domains, and a number of queues.
     fn view_device(&mut self, id: &Id, pool: &Pool, queues: usize) -> Result<(), String> {
-        for matrix in [0, 1 + self.random.below(255) as u8] {
+        for matrix in [ASSIGNED, GUEST] {
             self.view_masks(id, matrix)?;
             self.list_randomly(id, pool, matrix)?;
         }
+        self.view_controls(id)?;
         for _ in 0..queues {
             let queue = pool.queue(&mut self.random);
-            self.view_usable(id, (queue / 256) as u8, (queue % 256) as u8)?;
+            self.view_queue(id, queue)?;
         }
         self.compare_memory()
     }
 
     /// A whole listing, from place to place with a small buffer.
-    fn walk_listing(&mut self, id: &Id, matrix: u8) -> Result<(), String> {
+    fn walk_listing(&mut self, id: &Id, matrix: usize) -> Result<(), String> {
         let mut place = 0;
         let length = 8 + self.random.below(8_192) as usize;
         while place < QUEUES {
-            let (_, next) = self.view_list(id, matrix, place, length)?;
+            let next = self.view_list(id, matrix, place, length)?;
             if next <= place {
                 break;
             }
@@ -1130,26 +1330,22 @@ fn damage(random: &mut Random, text: &mut Vec<u8>) {
     }
 }
 
-fn number_text(random: &mut Random, numbers: &[u8], highest: u64) -> Vec<u8> {
-    let value = match random.below(24) {
+/// A number to assign, mostly one of a pool.
+fn some_number(random: &mut Random, numbers: &[u8], highest: u64) -> u64 {
+    let n = *random.pick(numbers) as u64;
+    match random.below(24) {
         0 => highest,
         1 => highest + 1,
-        2 => random.below(256),
+        2 => random.below(301),
         3 => 256 + random.below(65_280),
-        4 => *random.pick(&[
-            255,
-            256,
-            257,
-            65_535,
-            65_536,
-            65_537,
-            131_072,
-            4_294_967_296,
-            4_294_967_301,
-            9_999_999_999_999_999,
-        ]),
-        _ => *random.pick(numbers) as u64,
-    };
+        4 => *random.pick(&[255, 256, 257, 65_535, 131_072, 9_999_999_999_999_999, u64::MAX - n]),
+        // these have the low bits of one of the pool
+        5 => n + *random.pick(&[1 << 8, 1 << 16, 1 << 32, 1 << 63]),
+        _ => n,
+    }
+}
+
+fn number_text(random: &mut Random, value: u64) -> Vec<u8> {
     let mut text = spell(random, value).into_bytes();
     if random.one_in(3) {
         text.push(b'\n');
@@ -1310,6 +1506,17 @@ fn odd_value(random: &mut Random) -> u64 {
     }
 }
 
+/// A number to name, often one that has a name, or the low bits of one.
+fn some_int(random: &mut Random) -> c_int {
+    let named = c_int::from(random.pick(&[&NAMES[..], &MOVED[..]].concat()).0);
+    match random.below(4) {
+        0 => random.next() as c_int,
+        1 => named + *random.pick(&[1, -1, 1 << 8, 1 << 16, c_int::MIN]),
+        2 => -named,
+        _ => named,
+    }
+}
+
 fn flag(random: &mut Random) -> u64 {
     match random.below(4) {
         0 => 0,
@@ -1374,24 +1581,21 @@ impl Run {
             85..=139 => Call::Open(id),
             140..=184 => Call::Close(id),
             185..=724 => {
-                let kind = match random.below(5) {
-                    0 | 1 => ADAPTER as u8,
-                    2 | 3 => DOMAIN as u8,
-                    _ => 2 + random.below(254) as u8,
-                };
-                let highest = self.record.highest(kind_of(kind));
-                let host = if kind_of(kind) == ADAPTER { &self.record.apmask } else { &self.record.aqmask };
+                let kind = *random.pick(&[ADAPTER, ADAPTER, DOMAIN, DOMAIN, CONTROL]);
+                let highest = self.record.highest(kind);
+                let host = if kind == ADAPTER { &self.record.apmask } else { &self.record.aqmask };
                 let n = random.below(256) as u8;
-                let text = match random.below(5) {
+                let value = match random.below(5) {
                     // of the host's numbers, so that reserved queues are asked for
-                    0 if host.has(n as usize) => number_text(random, &[n], highest),
-                    _ => number_text(random, &pool.numbers[kind_of(kind).min(DOMAIN)], highest),
+                    0 if host.has(n as usize) => some_number(random, &[n], highest),
+                    _ => some_number(random, &pool.numbers[kind.min(DOMAIN)], highest),
                 };
                 // taken away less often than given, so that products grow
-                if random.one_in(4) {
-                    Call::Unassign(id, kind, text)
-                } else {
-                    Call::Assign(id, kind, text)
+                match (random.one_in(3), random.one_in(4)) {
+                    (false, false) => Call::Assign(id, kind, number_text(random, value)),
+                    (false, true) => Call::Unassign(id, kind, number_text(random, value)),
+                    (true, false) => Call::AssignNumber(id, kind, value),
+                    (true, true) => Call::UnassignNumber(id, kind, value),
                 }
             }
             725..=764 => Call::Apmask(mask_text(random, &pool.numbers[ADAPTER], pool.plus)),
@@ -1414,6 +1618,8 @@ impl Run {
 
     /// Starts another record: a fresh one, or one with any contents.
     fn start(&mut self) -> Result<Pool, String> {
+        // what was only read since the last call is about to be lost
+        self.compare_memory()?;
         let mut pool = Pool::new(&mut self.random);
         if self.random.one_in(2) {
             let (words, drivers) = any_record(&mut self.random, &pool);
@@ -1435,9 +1641,10 @@ impl Run {
     }
 
     /// Changes one word or one driver behind the back of both.
-    fn poke(&mut self) {
+    fn poke(&mut self) -> Result<(), String> {
+        self.compare_memory()?;
         self.pokes += 1;
-        let (mut words, mut drivers) = (self.words.inside().to_vec(), self.drivers.inside().to_vec());
+        let (mut words, mut drivers) = (self.record.words(), self.record.drivers.clone());
         if self.random.one_in(2) {
             let at = self.random.below(WORDS as u64) as usize;
             words[at] = if self.random.one_in(2) {
@@ -1449,11 +1656,12 @@ impl Run {
             drivers[self.random.below(65_536) as usize] = self.random.next() as u8;
         }
         self.hand_in(&words, &drivers);
+        Ok(())
     }
 
     fn random_step(&mut self, pool: &Pool) -> Result<(), String> {
         if self.random.one_in(400) {
-            self.poke();
+            self.poke()?;
         }
         let call = self.random_call(pool);
         self.call(&call)?;
@@ -1462,14 +1670,13 @@ impl Run {
 
     /// Everything that can be asked, of every device, and of an id that may be none.
     fn view_all(&mut self, pool: &Pool) -> Result<(), String> {
-        self.view_remaining()?;
+        self.view_record()?;
         let mut ids: Vec<Id> = self.record.devices.iter().filter(|v| v.present != 0).map(|v| v.id).collect();
         ids.push(*self.random.pick(&pool.ids));
         for id in ids {
             self.view_device(&id, pool, 24)?;
         }
-        let value = self.random.next() as u8;
-        self.view_name(value)
+        Ok(())
     }
 
     fn full_phase(&mut self, clock: &mut Clock) -> Result<u64, String> {
@@ -1486,12 +1693,12 @@ impl Run {
             }
             // listings of one device from end to end, and in a few records all its queues, as each can cost 65,536 turns
             let id = pool.id(&mut self.random, &self.record);
-            for matrix in [0, 1] {
+            for matrix in [ASSIGNED, GUEST] {
                 self.walk_listing(&id, matrix)?;
             }
             if self.fresh + self.handed_in <= 4 {
                 for queue in 0..QUEUES {
-                    self.view_usable(&id, (queue / 256) as u8, (queue % 256) as u8)?;
+                    self.view_queue(&id, queue)?;
                 }
             }
         }
@@ -1509,9 +1716,9 @@ impl Run {
                 }
                 self.random_step(&pool)?;
                 let (id, queue) = (pool.id(&mut self.random, &self.record), pool.queue(&mut self.random));
-                self.view_usable(&id, (queue / 256) as u8, (queue % 256) as u8)?;
+                self.view_queue(&id, queue)?;
                 if self.steps % SAMPLE == 0 {
-                    self.view_remaining()?;
+                    self.view_record()?;
                     self.view_device(&id, &pool, 8)?;
                 }
             }
@@ -1540,6 +1747,7 @@ impl Run {
             for domain in 0..256 {
                 let answer = self.call(&Call::Fresh(adapter, domain))?;
                 equal("a pair of limits", answer, 0)?;
+                self.view_limits()?;
             }
             for refused in [Call::Fresh(adapter, 256), Call::Fresh(256, adapter)] {
                 let answer = self.call(&refused)?;
@@ -1554,20 +1762,16 @@ impl Run {
                 for (kind, &limit) in highest.iter().enumerate() {
                     for n in [limit, limit + 1, limit.saturating_sub(1), 255, 256] {
                         let text = spell(&mut self.random, n).into_bytes();
-                        let long = text.len() > 16;
-                        for call in [Call::Assign(id, kind as u8, text.clone()), Call::Unassign(id, kind as u8, text)] {
+                        let by_number = if n > limit { 19 } else { 0 };
+                        let by_text = if text.len() > 16 { 22 } else { by_number };
+                        for (call, expected) in [
+                            (Call::Assign(id, kind, text.clone()), by_text),
+                            (Call::Unassign(id, kind, text), by_text),
+                            (Call::AssignNumber(id, kind, n), by_number),
+                            (Call::UnassignNumber(id, kind, n), by_number),
+                        ] {
                             let answer = self.call(&call)?;
-                            equal(
-                                "a number at a limit",
-                                answer,
-                                if long {
-                                    22
-                                } else if n > limit {
-                                    19
-                                } else {
-                                    0
-                                },
-                            )?;
+                            equal("a number at a limit", answer, expected)?;
                         }
                     }
                     for n in [limit, limit + 1] {
@@ -1591,7 +1795,7 @@ impl Run {
             }
             equal("remaining", self.view_remaining()?, 131_072)?;
             let used = self.call(&Call::Sweep(budget))?;
-            equal("moves used", used, budget.min(131_072))?;
+            equal("moves used", used, budget.min(131_072).into())?;
         }
         Ok(self.steps - begin)
     }
@@ -1708,19 +1912,19 @@ impl Run {
         let guest = self.record.guest(0);
         mask_is!(guest[ADAPTER], [5]);
         mask_is!(guest[DOMAIN], [4, 171]);
-        self.view_masks(&one, 1)?;
+        self.view_masks(&one, GUEST)?;
         gives!(0, Call::Configure(with_domains(&[4])));
         let guest = self.record.guest(0);
         mask_is!(guest[ADAPTER], [5, 6]);
         mask_is!(guest[DOMAIN], [4]);
-        self.view_masks(&one, 1)?;
+        self.view_masks(&one, GUEST)?;
         let all = b"05.0004\n05.00ab\n06.0004\n06.00ab\n";
         for (length, bytes, next, answer) in [(20, 16, 1_452, 0), (32, 32, 65_536, 0), (7, 0, 0, 28)] {
-            let listing = self.record.list(&one, 0, 0, length);
+            let listing = self.record.list(&one, ASSIGNED, 0, length);
             equal("setting: listing", listing.answer, answer)?;
             equal("setting: listing", &listing.bytes[..], &all[..bytes])?;
             equal("setting: next place", listing.next, next)?;
-            self.view_list(&one, 0, 0, length)?;
+            self.view_list(&one, ASSIGNED, 0, length)?;
         }
 
         // 11
@@ -1774,8 +1978,50 @@ impl Run {
         gives!(0, Call::Remove([3; 16]));
         gives!(0, Call::Create([8; 16]));
 
-        for value in 0..=255 {
-            self.view_name(value)?;
+        // 8 and 12 by number, and what is there to look at
+        gives!(0, Call::Fresh(63, 255));
+        gives!(0, Call::Create(one));
+        gives!(2, Call::AssignNumber(two, ADAPTER, 64));
+        gives!(0, Call::AssignNumber(one, ADAPTER, 63));
+        gives!(19, Call::AssignNumber(one, ADAPTER, 64));
+        gives!(19, Call::AssignNumber(one, ADAPTER, (1 << 32) + 5));
+        gives!(0, Call::Fresh(255, 255));
+        gives!(0, Call::Apmask(text("0x04")));
+        gives!(0, Call::Aqmask(text("0x02")));
+        gives!(0, Call::Create(one));
+        gives!(0, Call::Create(two));
+        for (id, kind, n) in [(one, ADAPTER, 5), (one, DOMAIN, 4), (two, DOMAIN, 4), (two, DOMAIN, 6)] {
+            gives!(0, Call::AssignNumber(id, kind, n));
+        }
+        gives!(99, Call::AssignNumber(two, ADAPTER, 5));
+        gives!(0, Call::UnassignNumber(two, DOMAIN, 6));
+        gives!(98, Call::AssignNumber(two, ADAPTER, 5));
+        for n in [255, 0, 171] {
+            gives!(0, Call::AssignNumber(two, CONTROL, n));
+        }
+        gives!(0, Call::Open(two));
+        let mut bytes = vec![0; CONFIG_BYTES];
+        bytes[0] = 0x06;
+        bytes[32] = 0x0a;
+        bytes[96 + 5] = 10;
+        bytes[96 + 6] = 9;
+        gives!(0, Call::Configure(bytes.clone()));
+        gives!(2, Call::Sweep(4));
+        equal("setting: configuration", self.record.configuration(), bytes)?;
+        equal("setting: control domains", self.record.controls(1), "0000\n00ab\n00ff\n".into())?;
+        equal("setting: holder", self.record.holder(5, 4), Some(one))?;
+        equal("setting: holder", self.record.holder(5, 6), None)?;
+        // (5,4) is passed through, (5,6) the host's, and (6,4) of a type below 10
+        for (queue, driver) in [((5, 4), Driver::Passthrough), ((5, 6), Driver::Host), ((6, 4), Driver::Unbound)] {
+            equal("setting: driver", self.record.driver(queue.0, queue.1), driver)?;
+            equal("setting: target", self.record.target(queue.0, queue.1), driver)?;
+            self.view_queue(&one, queue.0 * 256 + queue.1)?;
+        }
+        self.view_controls(&two)?;
+        self.view_record()?;
+
+        for value in (-600..=600).chain([65_538, 65_634, 1 << 24, c_int::MIN, c_int::MIN + 2, c_int::MAX]) {
+            self.view_names(value)?;
         }
         Ok(self.steps - begin)
     }
@@ -1848,23 +2094,29 @@ fn main() {
         run.fresh, run.handed_in, run.pokes
     );
     println!("  phases: settings {settings}, limits {limits}, full {full}, long {long}");
-    println!("  commands: {} accepted; refused:", run.accepted);
+    println!("  commands: {} accepted (by number {}); refused:", run.accepted, run.by_number[0]);
     for (value, name) in NAMES {
-        println!(
-            "    {value:2} {name:13} {:9}   (by listings and masks {})",
-            run.refused[value as usize], run.view_refused[value as usize]
-        );
+        let v = value as usize;
+        println!("    {value:2} {name:13} {:9}   (by number {})", run.refused[v], run.by_number[v]);
     }
     let [idle, released, host, passthrough] = run.moves;
     println!("  moves: {idle} idle, {released} released, {host} bound to host, {passthrough} bound to passthrough");
     println!("  sweeps: {}, of {} moves", run.sweeps, run.swept);
     println!("  compared after every step: the answer, {WORDS} words, {QUEUES} drivers, each buffer lent and");
     println!("    {EDGE} guard places on either side of each");
-    println!("  full phase, after every step: the remainder; of every device, and of one id more,");
-    println!("    the masks and a listing of both matrices, and whether 24 queues are usable");
-    println!("  long phase, after every step: whether one queue is usable; after every {SAMPLE}th: the remainder,");
-    println!("    and of one device the masks and a listing of both matrices, and 8 queues");
-    println!("  so asked: {} masks, listings, names and remainders, and {} queues", run.views, run.usables);
+    println!("  full phase, after every step: the remainder, the limits, the host masks, the configuration,");
+    println!("    each slot, the names of a number; of every device, and of one id more, the masks and a listing of");
+    println!("    both matrices, the control domains, and 24 queues (usable, driver, target, holder)");
+    println!("  long phase, after every step: one queue; after every {SAMPLE}th: the same as in the full phase,");
+    println!("    but of one device, and 8 queues");
+    println!("  so asked, and the answers where there were several:");
+    for (reader, answers) in &run.asked {
+        print!("    {reader:18} {:9}", answers.values().sum::<u64>());
+        for (answer, n) in answers.iter().filter(|_| answers.len() > 1) {
+            print!("   {answer}: {n}");
+        }
+        println!();
+    }
     let missing: Vec<&str> =
         NAMES.iter().filter(|(v, _)| run.refused[*v as usize] == 0).map(|(_, name)| *name).collect();
     if !missing.is_empty() {
