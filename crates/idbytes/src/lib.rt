@@ -1,13 +1,11 @@
 // The 16 bytes of an id.
 //
 // Rests on rules, fields and rows.
+use fields::ID_BYTES;
 use rules::Id;
 ghost use mathlib.Core.Path.{_≡_};
 ghost use Prim.Native.Nat.{_<_};
 ghost use Rattle.idbytes.specs.IdBytes.{wordByte, idByte, AsBytes};
-
-// The bytes of an id.
-pub const ID_BYTES: usize = 16;
 
 // The bytes of an id, from which `fields::id_of` reads it.
 pub fn to_bytes(id: Id) -> [u8; ID_BYTES]
