@@ -4,10 +4,7 @@
 use Prim.Native.Nat.{ℕ}
 use mathlib.Core.Bool.{Bool, cond}
 use mathlib.Core.Path.{_≡_}
-use lib.Dec.{eqb}
 use denote.Ref.{RefT, now}
-use Rattle.rules.specs.declared.Matrix.{Matrix}
-use Rattle.rules.specs.declared.Matrix.the-variants.{Assigned, Guest}
 use Rattle.rules.specs.Commands.{answered}
 use Rattle.sweep.specs.declared.Swept.{Swept}
 use Rattle.listing.specs.declared.Listed.{Listed}
@@ -15,10 +12,6 @@ use Rattle.listing.specs.declared.Listed.{Listed}
 -- a flag
 unfoldable pub bit : Bool → ℕ
 bit b = cond b 1 0
-
--- a matrix: 0 is what is assigned, any other what the guest gets
-unfoldable pub matrixOf : ℕ → Matrix
-matrixOf n = cond (eqb n 0) Assigned Guest
 
 -- a lent number
 abbrev pub LentNumber : Type 0

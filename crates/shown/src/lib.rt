@@ -11,7 +11,7 @@ ghost use lib.Dec.{eqb};
 ghost use Rattle.layout.specs.Lent.{state};
 ghost use Rattle.sweep.specs.Sweeps.{Sweeps};
 ghost use Rattle.listing.specs.Listed.{Listing};
-ghost use Rattle.shown.specs.Shown.{bit, matrixOf};
+ghost use Rattle.shown.specs.Shown.{bit};
 ghost use Rattle.shown.specs.Shown.{SweepShown, ListShown};
 
 // Makes a sweep and answers the moves used; more is then 1 where any remain, and 0 where none does.
@@ -49,17 +49,6 @@ pub fn flag(b: bool) -> u8
     ensures { λ r. ⌜ r ≡ bit b ⌝ }
 {
     if b { 1 } else { 0 }
-}
-
-// A matrix by its number: 0 is what is assigned, any other what the guest gets.
-pub fn matrix_of(n: u8) -> Matrix
-    ensures { λ r. ⌜ r ≡ matrixOf n ⌝ }
-{
-    if n == 0 {
-        Matrix::Assigned
-    } else {
-        Matrix::Guest
-    }
 }
 
 // Leaves a number, unless the call is refused.
