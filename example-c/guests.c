@@ -7,8 +7,7 @@
 
 #include "zokormendu.h"
 
-static uint64_t words[ZK_WORDS];
-static uint8_t drivers[ZK_QUEUES];
+static struct zk_record record;
 
 struct guest {
     const char *name;
@@ -20,45 +19,49 @@ static const struct guest guest2 = {"Guest2", {2}};
 static const struct guest guest3 = {"Guest3", {3}};
 static const struct guest rehearsal = {"Rehearsal", {4}};
 
-static void say(uint8_t answer)
+static void say(int answer)
 {
-    uint8_t name[ZK_NAME_BYTES];
-    if (answer == 0) {
+    char name[ZK_NAME_BYTES];
+    if (answer == 0)
         puts("ok");
-        return;
-    }
-    size_t length = zk_errno_name(answer, name);
-    printf("refused %.*s\n", (int)length, (const char *)name);
+    else
+        printf("refused %s\n", zk_errno_name(answer, name));
 }
 
 static void create(const struct guest *g)
 {
     printf("create %s: ", g->name);
-    say(zk_create(words, zk_id_hi(g->id), zk_id_lo(g->id)));
+    say(zk_create(&record, g->id));
 }
 
-static void assign(const struct guest *g, uint8_t kind, const char *text)
+static void assign_adapter(const struct guest *g, const char *text)
 {
-    printf("assign %s %s %s: ", g->name, kind == ZK_ADAPTER ? "adapter" : "domain", text);
-    say(zk_assign(words, zk_id_hi(g->id), zk_id_lo(g->id), kind, (const uint8_t *)text, strlen(text)));
+    printf("assign %s adapter %s: ", g->name, text);
+    say(zk_assign_adapter(&record, g->id, text, strlen(text)));
+}
+
+static void assign_domain(const struct guest *g, const char *text)
+{
+    printf("assign %s domain %s: ", g->name, text);
+    say(zk_assign_domain(&record, g->id, text, strlen(text)));
 }
 
 static void open_device(const struct guest *g)
 {
     printf("open %s: ", g->name);
-    say(zk_open(words, zk_id_hi(g->id), zk_id_lo(g->id)));
+    say(zk_open(&record, g->id));
 }
 
 static void set_apmask(const char *text)
 {
     printf("apmask %s: ", text);
-    say(zk_set_apmask(words, (const uint8_t *)text, strlen(text)));
+    say(zk_set_apmask(&record, text, strlen(text)));
 }
 
 static void set_aqmask(const char *text)
 {
     printf("aqmask %s: ", text);
-    say(zk_set_aqmask(words, (const uint8_t *)text, strlen(text)));
+    say(zk_set_aqmask(&record, text, strlen(text)));
 }
 
 static void set_bit(uint8_t *mask, unsigned n)
@@ -79,34 +82,33 @@ static void configure(void)
     for (size_t i = 0; i < sizeof domains / sizeof *domains; i++)
         set_bit(configuration + ZK_MASK_BYTES, domains[i]);
     printf("configure adapters 5,6 and domains 4,0x47,0xab,0xff: ");
-    say(zk_configure(words, drivers, configuration));
+    say(zk_configure(&record, configuration));
 }
 
 static void sweep(void)
 {
     uint8_t more;
-    printf("remaining: %u\n", (unsigned)zk_remaining(words, drivers));
-    uint32_t used = zk_sweep(words, drivers, ZK_MOST_MOVES, &more);
+    printf("remaining: %u\n", (unsigned)zk_remaining(&record));
+    uint32_t used = zk_sweep(&record, ZK_MOST_MOVES, &more);
     printf("sweep: %u moves, %s\n", (unsigned)used, more ? "more remain" : "none remain");
 }
 
 /* What the guest gets, on one line. The buffer holds two lines, so a longer listing takes several calls. */
 static void list(const struct guest *g)
 {
-    uint8_t buffer[2 * ZK_LINE_BYTES];
+    char buffer[2 * ZK_LINE_BYTES];
     size_t place = 0;
     printf("list %s:", g->name);
     while (place < ZK_QUEUES) {
         size_t written, next;
-        uint8_t answer = zk_list(words, drivers, zk_id_hi(g->id), zk_id_lo(g->id), ZK_GUEST, place, buffer, sizeof buffer,
-                                 &written, &next);
+        int answer = zk_guest_matrix(&record, g->id, place, buffer, sizeof buffer, &written, &next);
         if (answer != 0) {
             putchar(' ');
             say(answer);
             return;
         }
         for (size_t i = 0; i < written; i += ZK_LINE_BYTES)
-            printf(" %.*s", ZK_LINE_BYTES - 1, (const char *)buffer + i);
+            printf(" %.*s", ZK_LINE_BYTES - 1, buffer + i);
         place = next;
     }
     putchar('\n');
@@ -114,14 +116,14 @@ static void list(const struct guest *g)
 
 static void usable(const struct guest *g, uint8_t apid, uint8_t apqi)
 {
-    int yes = zk_usable(words, drivers, zk_id_hi(g->id), zk_id_lo(g->id), apid, apqi);
+    int yes = zk_usable(&record, g->id, apid, apqi);
     printf("%s can use %02x.%04x: %s\n", g->name, (unsigned)apid, (unsigned)apqi, yes ? "yes" : "no");
 }
 
 int main(void)
 {
     printf("fresh: ");
-    say(zk_fresh(words, drivers, 255, 255));
+    say(zk_fresh(&record, 255, 255));
 
     /* secure the queues, so that the host's drivers leave them */
     set_apmask("-5,-6");
@@ -132,16 +134,16 @@ int main(void)
     create(&guest1);
     create(&guest2);
     create(&guest3);
-    assign(&guest1, ZK_ADAPTER, "5");
-    assign(&guest1, ZK_ADAPTER, "6");
-    assign(&guest1, ZK_DOMAIN, "4");
-    assign(&guest1, ZK_DOMAIN, "0xab");
-    assign(&guest2, ZK_ADAPTER, "5");
-    assign(&guest2, ZK_DOMAIN, "0x47");
-    assign(&guest2, ZK_DOMAIN, "0xff");
-    assign(&guest3, ZK_ADAPTER, "6");
-    assign(&guest3, ZK_DOMAIN, "0x47");
-    assign(&guest3, ZK_DOMAIN, "0xff");
+    assign_adapter(&guest1, "5");
+    assign_adapter(&guest1, "6");
+    assign_domain(&guest1, "4");
+    assign_domain(&guest1, "0xab");
+    assign_adapter(&guest2, "5");
+    assign_domain(&guest2, "0x47");
+    assign_domain(&guest2, "0xff");
+    assign_adapter(&guest3, "6");
+    assign_domain(&guest3, "0x47");
+    assign_domain(&guest3, "0xff");
     open_device(&guest1);
     open_device(&guest2);
     open_device(&guest3);
@@ -151,8 +153,8 @@ int main(void)
 
     /* 05.0004 is Guest1's. Adapter 5 alone is no queue yet; domain 4 would make it one. */
     create(&rehearsal);
-    assign(&rehearsal, ZK_ADAPTER, "5");
-    assign(&rehearsal, ZK_DOMAIN, "4");
+    assign_adapter(&rehearsal, "5");
+    assign_domain(&rehearsal, "4");
     open_device(&rehearsal);
     list(&rehearsal);
     usable(&guest1, 5, 4);
