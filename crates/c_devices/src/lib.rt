@@ -1,6 +1,6 @@
 // The C interface to a record and its devices: fresh, create, remove, open, close. include/zokormendu.h has the declarations.
 //
-// Rests on rules, fields, layout, model, setup, create, devices, request and served.
+// Rests on rules, fields, layout, model, setup, served and whole.
 use fields::ID_BYTES;
 use layout::Drivers;
 use layout::Words;
@@ -25,26 +25,26 @@ pub extern "C" fn zk_raw_fresh(
 pub extern "C" fn zk_raw_create(words: &mut Words, drivers: &mut Drivers, id: &[u8; ID_BYTES]) -> u8
     ensures { λ r. ⌜ Serves (create (idIn (id .entry))) (words .entry) (words .exit) (drivers .entry) (drivers .exit) r ⌝ }
 {
-    rules::answer_number(create::create(words, fields::id_of(id)))
+    whole::create(words, drivers, id)
 }
 
 #[no_mangle]
 pub extern "C" fn zk_raw_remove(words: &mut Words, drivers: &mut Drivers, id: &[u8; ID_BYTES]) -> u8
     ensures { λ r. ⌜ Serves (remove (idIn (id .entry))) (words .entry) (words .exit) (drivers .entry) (drivers .exit) r ⌝ }
 {
-    rules::answer_number(devices::remove(words, fields::id_of(id)))
+    whole::remove(words, drivers, id)
 }
 
 #[no_mangle]
 pub extern "C" fn zk_raw_open(words: &mut Words, drivers: &mut Drivers, id: &[u8; ID_BYTES]) -> u8
     ensures { λ r. ⌜ Serves (openIt (idIn (id .entry))) (words .entry) (words .exit) (drivers .entry) (drivers .exit) r ⌝ }
 {
-    rules::answer_number(devices::open(words, fields::id_of(id)))
+    whole::open(words, drivers, id)
 }
 
 #[no_mangle]
 pub extern "C" fn zk_raw_close(words: &mut Words, drivers: &mut Drivers, id: &[u8; ID_BYTES]) -> u8
     ensures { λ r. ⌜ Serves (closeIt (idIn (id .entry))) (words .entry) (words .exit) (drivers .entry) (drivers .exit) r ⌝ }
 {
-    rules::answer_number(devices::close(words, fields::id_of(id)))
+    whole::close(words, drivers, id)
 }

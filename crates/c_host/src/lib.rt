@@ -1,6 +1,6 @@
 // The C interface to the host's masks and the configuration: setting them. include/zokormendu.h has the declarations.
 //
-// Rests on rules, fields, layout, model, host, configure and served.
+// Rests on fields, layout, model, served and whole.
 use fields::CONFIGURATION_BYTES;
 use layout::Drivers;
 use layout::Words;
@@ -12,14 +12,14 @@ ghost use Rattle.served.specs.Served.{Serves};
 pub extern "C" fn zk_raw_set_apmask(words: &mut Words, drivers: &mut Drivers, text: &[u8]) -> u8
     ensures { λ r. ⌜ Serves (setApmask (now (text .entry))) (words .entry) (words .exit) (drivers .entry) (drivers .exit) r ⌝ }
 {
-    rules::answer_number(host::set_apmask(words, text))
+    whole::set_apmask(words, drivers, text)
 }
 
 #[no_mangle]
 pub extern "C" fn zk_raw_set_aqmask(words: &mut Words, drivers: &mut Drivers, text: &[u8]) -> u8
     ensures { λ r. ⌜ Serves (setAqmask (now (text .entry))) (words .entry) (words .exit) (drivers .entry) (drivers .exit) r ⌝ }
 {
-    rules::answer_number(host::set_aqmask(words, text))
+    whole::set_aqmask(words, drivers, text)
 }
 
 // Three masks of 32 bytes in mask order, then 256 hardware types.
@@ -32,9 +32,5 @@ pub extern "C" fn zk_raw_configure(
     ensures { λ r. ⌜ Serves (configure (configurationOf (now (configuration .entry))))
         (words .entry) (words .exit) (drivers .entry) (drivers .exit) r ⌝ }
 {
-    rules::answer_number(configure::configure(
-        words,
-        drivers,
-        fields::configuration_of(configuration),
-    ))
+    whole::configure(words, drivers, configuration)
 }

@@ -1,14 +1,15 @@
 // The C interface to what a record holds of the host: limits, masks and configuration, read back. include/zokormendu.h has the
 // declarations.
 //
-// Rests on mask, maskbytes, rules, fields, layout, record, matrixbytes and configbytes.
+// Rests on mask, rules, fields, layout, record, matrixbytes and hostbytes.
 use fields::CONFIGURATION_BYTES;
+use hostbytes::MASK_BYTES;
 use layout::Drivers;
 use layout::Words;
 ghost use mathlib.Core.Path.{_≡_};
 ghost use Rattle.layout.specs.Lent.{limits, host, config};
 ghost use Rattle.matrixbytes.specs.Matrices.{maskBytes};
-ghost use Rattle.configbytes.specs.Configurations.{configurationBytes};
+ghost use Rattle.hostbytes.specs.Configurations.{configurationBytes};
 
 #[no_mangle]
 pub extern "C" fn zk_raw_highest_adapter(words: &Words, drivers: &Drivers) -> u8
@@ -25,17 +26,17 @@ pub extern "C" fn zk_raw_highest_domain(words: &Words, drivers: &Drivers) -> u8
 }
 
 #[no_mangle]
-pub extern "C" fn zk_raw_apmask(words: &Words, drivers: &Drivers, mask: &mut [u8; 32])
+pub extern "C" fn zk_raw_apmask(words: &Words, drivers: &Drivers, mask: &mut [u8; MASK_BYTES])
     ensures { λ r. ⌜ now (mask .exit) ≡ maskBytes (host (words .entry) .apmask) ⌝ }
 {
-    *mask = maskbytes::to_bytes(record::apmask(words));
+    hostbytes::apmask(words, mask);
 }
 
 #[no_mangle]
-pub extern "C" fn zk_raw_aqmask(words: &Words, drivers: &Drivers, mask: &mut [u8; 32])
+pub extern "C" fn zk_raw_aqmask(words: &Words, drivers: &Drivers, mask: &mut [u8; MASK_BYTES])
     ensures { λ r. ⌜ now (mask .exit) ≡ maskBytes (host (words .entry) .aqmask) ⌝ }
 {
-    *mask = maskbytes::to_bytes(record::aqmask(words));
+    hostbytes::aqmask(words, mask);
 }
 
 #[no_mangle]
@@ -46,5 +47,5 @@ pub extern "C" fn zk_raw_configuration(
 )
     ensures { λ r. ⌜ now (configuration .exit) ≡ configurationBytes (config (words .entry)) ⌝ }
 {
-    configbytes::configuration(words, configuration);
+    hostbytes::configuration(words, configuration);
 }

@@ -1,0 +1,14 @@
+-- `aqmask` meets its contract.
+-- Assumes nothing.
+use mathlib.Core.Path.{ap, _∙_}
+use borrow.Author.Needs.{needs}
+use Rattle.matrixbytes.specs.Matrices.{maskBytes}
+use Rattle.hostbytes.proofs.aqmask.Statement.{statement}
+use Rattle.hostbytes.proofs.aqmask.Tie as tie
+
+returns : tie.Need-returns
+unfolding maskBytes
+returns c = c .to-bytes .ensures ∙ ap maskBytes (c .before .aqmask .ensures)
+
+pub aqmask-spec : {M : Type 1} → statement M
+aqmask-spec = tie.close (tie.spec (λ c κs. search needs) (λ c κs. search needs) returns)
