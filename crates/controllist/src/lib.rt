@@ -1,6 +1,6 @@
 // The assigned control domains of a device as text: a line of four hex digits for each, by ascending number.
 //
-// Rests on errno, digits, mask, rules, layout, lines, record and lookup.
+// Rests on errno, digits, copy, mask, rules, layout, lines, record and lookup.
 use errno::Errno;
 use layout::SLOTS;
 use layout::Words;
@@ -65,11 +65,7 @@ fn put_line(text: &mut [u8], at: usize, domain: u8)
     ensures { λ r. ⌜ now (text .exit) ≡ paste (now (text .entry)) at (domainLine domain) 5 ⌝ }
 {
     let line = line(domain);
-    let mut i = 0usize;
-    while i < LINE {
-        text[at + i] = line[i];
-        i += 1;
-    }
+    copy::copy(text, at, &line);
 }
 
 fn line(domain: u8) -> [u8; LINE]

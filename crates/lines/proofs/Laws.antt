@@ -38,7 +38,7 @@ count-queues m = length-queues queues 0 m ∙ count-cong queues (λ i. m (0 + i)
 
 -- ---- lines
 
-line-long : (q : ℕ) → length (lineOf q) ≡ 8
+pub line-long : (q : ℕ) → length (lineOf q) ≡ 8
 unfolding lineOf
 line-long q = refl
 
@@ -56,17 +56,6 @@ past-snoc : (place : ℕ) (qs : List ℕ) (q : ℕ) → pastLast place (qs ++ (q
 unfolding pastLast
 past-snoc place [] q = refl
 past-snoc place (p ∷ qs) q = past-snoc (p + 1) qs q
-
--- one byte more of a line
-pub line-byte : (b₀ : List ℕ) (at q i : ℕ) {b l : List ℕ} → l ≡ lineOf q → b ≡ paste b₀ at (lineOf q) i → at + lineSize ≤ length b₀ → i < lineSize
-    → set b (at + i) (getD l i 0) ≡ paste b₀ at (lineOf q) (i + 1)
-line-byte b₀ at q i e p h k =
-    ap₂ (λ (x y : List ℕ). set x (at + i) (getD y i 0)) p e ∙ paste-suc b₀ at (lineOf q) i 0 (omega arith) (omega (arith, line-long q))
-    ∙ ap (λ (j : ℕ). paste b₀ at (lineOf q) j) (sym (add-one i))
-
-pub line-whole : (b₀ : List ℕ) (at q i : ℕ) {b : List ℕ} → b ≡ paste b₀ at (lineOf q) i → i ≡ lineSize → b ≡ withLine b₀ at q
-unfolding lineOf
-line-whole b₀ at q i p e = rw e at p
 
 -- ---- the queues from k on
 

@@ -1,6 +1,6 @@
 // The queues of a product as text: a line of eight bytes for each, by ascending queue.
 //
-// Rests on digits, mask, rules and product.
+// Rests on digits, copy, mask, rules and product.
 use mask::Apid;
 use mask::Apqi;
 use product::Product;
@@ -63,11 +63,7 @@ fn put_line(buf: &mut [u8], at: usize, queue: usize)
     ensures { λ r. ⌜ now (buf .exit) ≡ withLine (now (buf .entry)) at queue ⌝ }
 {
     let line = line(queue);
-    let mut i = 0usize;
-    while i < LINE {
-        buf[at + i] = line[i];
-        i += 1;
-    }
+    copy::copy(buf, at, &line);
 }
 
 fn line(queue: usize) -> [u8; 8]

@@ -1,6 +1,6 @@
 // A device's matrix as bytes, for a caller in C: three masks of 32 bytes.
 //
-// Rests on mask, maskbytes, rules, layout and guest.
+// Rests on copy, mask, maskbytes, rules, layout and guest.
 use layout::Drivers;
 use layout::Words;
 use mask::Mask;
@@ -58,9 +58,5 @@ fn put_mask(mask: Mask, out: &mut [u8], at: usize)
     ensures { λ r. ⌜ now (out .exit) ≡ paste (now (out .entry)) at (maskBytes (bits mask)) 32 ⌝ }
 {
     let b = maskbytes::to_bytes(mask);
-    let mut i = 0usize;
-    while i < 32 {
-        out[at + i] = b[i];
-        i += 1;
-    }
+    copy::copy(out, at, &b);
 }
