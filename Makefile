@@ -32,14 +32,19 @@ LIB = target/lib/libzokormendu.a
 # The crates that export functions. `rt staticlib` makes an archive of each one's exports, with one object.
 EXPORTS = c_record c_devices c_assign c_number c_host c_queues c_matrix c_look c_names
 
-library:
+library: $(LIB)
+
+$(LIB): $(shell find crates.txt crates -type f)
 	@echo "making $(LIB): on a fresh clone some five minutes, a line for each crate as it is proved"
 	@$(call show,rt check $(EXPORTS),target/library.log)
-	@for c in $(EXPORTS); do rt staticlib $$c >target/library.log 2>&1 || { cat target/library.log; exit 1; }; done
 	@rm -rf target/lib && mkdir -p target/lib/objects
-	@for c in $(EXPORTS); do (cd target/lib/objects && ar x ../../staticlib/lib$$c.a) || exit 1; done
+	@for c in $(EXPORTS); do \
+	    rt staticlib $$c >target/library.log 2>&1 || { cat target/library.log; exit 1; }; \
+	    (cd target/lib/objects && ar x ../../staticlib/lib$$c.a) || exit 1; \
+	    echo "$$c: compiled"; \
+	done
 	@ar rcs $(LIB) target/lib/objects/*.o
-	@echo "$(LIB): $$(nm -g $(LIB) | grep -c ' T zk_raw_') exports"
+	@echo "$(LIB): $$(nm -g $(LIB) | grep -c ' T zk_raw_') functions"
 
 PREFIX = /usr/local
 DESTDIR =

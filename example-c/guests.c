@@ -1,6 +1,7 @@
 /*
  * The three guests of the kernel's vfio-ap paper, from a bare record to running. Then the accident: a rehearsal guest asks
- * for a queue of a live one, and is refused. Prints a line for each step; guests.expected has them, worked out by hand.
+ * for a queue of a live one, and is refused. Then a domain that goes and comes back, a look around, and the end of a guest.
+ * Prints a line for each step; guests.expected has them, worked out by hand.
  */
 #include <stdio.h>
 #include <string.h>
@@ -69,7 +70,8 @@ static void set_bit(uint8_t *mask, unsigned n)
     mask[n / 8] |= (uint8_t)(0x80 >> n % 8);
 }
 
-static void configure(void)
+/* Configures adapters 5 and 6 and the first `count` of the domains. */
+static int configure(size_t count)
 {
     static const unsigned adapters[] = {5, 6};
     static const unsigned domains[] = {4, 0x47, 0xab, 0xff};
@@ -79,10 +81,9 @@ static void configure(void)
         /* CEX5; from 10, CEX4, on an adapter can be passed through */
         configuration[ZK_MASKS_BYTES + adapters[i]] = 11;
     }
-    for (size_t i = 0; i < sizeof domains / sizeof *domains; i++)
+    for (size_t i = 0; i < count; i++)
         set_bit(configuration + ZK_MASK_BYTES, domains[i]);
-    printf("configure adapters 5,6 and domains 4,0x47,0xab,0xff: ");
-    say(zk_configure(&record, configuration));
+    return zk_configure(&record, configuration);
 }
 
 static void sweep(void)
@@ -120,6 +121,47 @@ static void usable(const struct guest *g, uint8_t apid, uint8_t apqi)
     printf("%s can use %02x.%04x: %s\n", g->name, (unsigned)apid, (unsigned)apqi, yes ? "yes" : "no");
 }
 
+static void move(uint8_t apid, uint8_t apqi)
+{
+    char name[ZK_NAME_BYTES];
+    int moved = zk_move(&record, apid, apqi);
+    printf("move %02x.%04x: %s\n", (unsigned)apid, (unsigned)apqi, zk_moved_name(moved, name));
+}
+
+static const char *name_of(const uint8_t *id)
+{
+    static const struct guest *const guests[] = {&guest1, &guest2, &guest3, &rehearsal};
+    for (size_t i = 0; i < sizeof guests / sizeof *guests; i++)
+        if (memcmp(guests[i]->id, id, ZK_ID_BYTES) == 0)
+            return guests[i]->name;
+    return "a device of somebody else";
+}
+
+static void look(uint8_t apid, uint8_t apqi)
+{
+    static const char *const drivers[] = {"unbound", "host", "passthrough"};
+    uint8_t id[ZK_ID_BYTES];
+    const char *holder = zk_holder(&record, apid, apqi, id) == 0 ? name_of(id) : "nobody";
+    printf("%02x.%04x: assigned to %s, driver %s, target %s\n", (unsigned)apid, (unsigned)apqi, holder,
+           drivers[zk_driver(&record, apid, apqi)], drivers[zk_target(&record, apid, apqi)]);
+}
+
+static void devices(void)
+{
+    uint8_t id[ZK_ID_BYTES], open;
+    for (size_t slot = 0; slot < ZK_SLOTS; slot++)
+        if (zk_device(&record, slot, id, &open) == 0)
+            printf("slot %zu: %s, %s\n", slot, name_of(id), open ? "open" : "not open");
+}
+
+static void control_domains(const struct guest *g)
+{
+    char text[ZK_CONTROL_DOMAINS_BYTES];
+    size_t written;
+    if (zk_control_domains(&record, g->id, text, &written) == 0)
+        printf("control domains of %s: %.*s", g->name, (int)written, text);
+}
+
 int main(void)
 {
     printf("fresh: ");
@@ -128,7 +170,8 @@ int main(void)
     /* secure the queues, so that the host's drivers leave them */
     set_apmask("-5,-6");
     set_aqmask("-4,-0x47,-0xab,-0xff");
-    configure();
+    printf("configure adapters 5,6 and domains 4,0x47,0xab,0xff: ");
+    say(configure(4));
     sweep();
 
     create(&guest1);
@@ -159,5 +202,35 @@ int main(void)
     list(&rehearsal);
     usable(&guest1, 5, 4);
     usable(&rehearsal, 5, 4);
+
+    /* A domain goes: its queues are unbound at once. It comes back: until 06.00ff is bound again, Guest3 lacks adapter 6. */
+    printf("configure without domain 0xff: ");
+    say(configure(3));
+    list(&guest3);
+    printf("configure with domain 0xff again: ");
+    say(configure(4));
+    list(&guest3);
+    move(6, 0xff);
+    move(6, 0xff);
+    list(&guest3);
+    sweep();
+
+    look(5, 4);
+    look(7, 4);
+
+    /* The end of Guest2, whose queue 05.0047 can then be another's. */
+    printf("close Guest2: ");
+    say(zk_close(&record, guest2.id));
+    printf("remove Guest2: ");
+    say(zk_remove(&record, guest2.id));
+    printf("assign Rehearsal domain number 71: ");
+    say(zk_assign_domain_number(&record, rehearsal.id, 71));
+    printf("assign Rehearsal domain number 256: ");
+    say(zk_assign_domain_number(&record, rehearsal.id, 256));
+    list(&rehearsal);
+    printf("assign Guest1 control domain number 7: ");
+    say(zk_assign_control_domain_number(&record, guest1.id, 7));
+    control_domains(&guest1);
+    devices();
     return 0;
 }

@@ -34,8 +34,8 @@
  *    other, and a copy of a record is a record too. What its words mean can change with ZK_VERSION, and they are numbers
  *    of this machine: look at a record by the functions below, and do not send it elsewhere.
  *  - No pointer may be null, also where its length is 0. No two pointers of one call may lead to the same bytes.
- *  - Any contents of a record are read by the same rules, and none makes a call fault. Of two devices with one id the one
- *    in the lower slot is meant.
+ *  - Any contents of a record are read by the same rules, and none makes a call fault. Of two devices with one id, or with
+ *    one queue, which no calls lead to, the one in the lower slot is meant.
  *
  * THREADS. There are no locks. Calls that take a const record only read it, and can run side by side on one record while
  * no other call runs on it; any other call must be alone on its record. Calls on different records can run side by side.
@@ -45,10 +45,11 @@
  * leaves every byte that it was lent as it was. Calls that answer something else, or nothing, cannot be refused.
  *
  * TEXT is bytes with a length and needs no terminator.
- *  - A number: decimal, hex after 0x, octal after a leading 0; 1 to 16 bytes, of at most 65535.
+ *  - A number: decimal, hex after 0x, octal after a leading 0; 1 to 16 bytes, of at most 65535. Hex digits are of either
+ *    case, here and below; the x is not.
  *  - A mask: 0x and 1 to 64 hex digits, bit 0 first, filled with zeros on the right; or items with commas between, each
  *    + or - and a number of at most 255, worked from left to right on the old mask.
- *  One newline may end either. Anything else is ZK_EINVAL.
+ *  One newline may end either, and is not counted. Anything else is ZK_EINVAL.
  *
  * A MASK AS BYTES: byte 0 holds bits 0 to 7, and bit 0 is its most significant bit.
  */
@@ -81,7 +82,7 @@ extern "C" {
 #define ZK_MOST_MOVES 131072          /* what a sweep can need; a larger budget is taken as this */
 
 /* The refusals. */
-#define ZK_ENOENT 2         /* no device has this id; no device is there */
+#define ZK_ENOENT 2         /* no device has this id, is in this slot, has this queue */
 #define ZK_EBUSY 16         /* remove or open of an open device */
 #define ZK_EEXIST 17        /* create of a present id */
 #define ZK_ENODEV 19        /* a number or bit above its limit */
@@ -115,7 +116,7 @@ _Static_assert(sizeof(struct zk_record) == ZK_RECORD_BYTES, "the size of a recor
 
 /*
  * What the archive exports, for callers that cannot use the inline functions below: the same calls, with the record as its
- * two arrays and text as bytes.
+ * two arrays, text as bytes, and an answer as the byte that it fits into.
  */
 uint8_t zk_raw_fresh(uint64_t *words, uint8_t *drivers, uint64_t highest_adapter, uint64_t highest_domain);
 uint8_t zk_raw_create(uint64_t *words, uint8_t *drivers, const uint8_t *id);
@@ -216,7 +217,7 @@ static inline int zk_configure(struct zk_record *record, const uint8_t configura
     return zk_raw_configure(record->words, record->drivers, configuration);
 }
 
-/* Writes the configuration in the form that zk_configure takes. */
+/* Writes the configuration in the form that zk_configure takes; a type above 255, which no call sets, as 255. */
 static inline void zk_configuration(const struct zk_record *record, uint8_t configuration[ZK_CONFIG_BYTES])
 {
     zk_raw_configuration(record->words, record->drivers, configuration);
@@ -293,8 +294,8 @@ static inline int zk_close(struct zk_record *record, const uint8_t id[ZK_ID_BYTE
 }
 
 /*
- * Writes the id of the device in a slot, and 1 or 0 for whether it is open; 0, or ENOENT where no device is there. Slots
- * from 0 up to ZK_SLOTS have all devices.
+ * Writes the id of the device in a slot, and 1 or 0 for whether it is open; 0, or ENOENT where no device is there. Slots 0
+ * to ZK_SLOTS - 1 have all devices.
  */
 static inline int zk_device(const struct zk_record *record, size_t slot, uint8_t id[ZK_ID_BYTES], uint8_t *open)
 {
@@ -368,7 +369,8 @@ static inline int zk_unassign_domain_number(struct zk_record *record, const uint
     return zk_raw_unassign_domain_number(record->words, record->drivers, id, number);
 }
 
-static inline int zk_unassign_control_domain_number(struct zk_record *record, const uint8_t id[ZK_ID_BYTES], uint64_t number)
+static inline int zk_unassign_control_domain_number(struct zk_record *record, const uint8_t id[ZK_ID_BYTES],
+                                                    uint64_t number)
 {
     return zk_raw_unassign_control_domain_number(record->words, record->drivers, id, number);
 }
@@ -419,7 +421,10 @@ static inline int zk_control_domains(const struct zk_record *record, const uint8
 
 /* ---- names ---- */
 
-/* Writes the name of an errno value, as EADDRINUSE, and answers it; the empty string for any other value. */
+/*
+ * Writes the name of an errno value, as EADDRINUSE, and zeros after it, and answers it; for any other value the empty
+ * string, and the rest of the buffer stays as it was.
+ */
 static inline const char *zk_errno_name(int value, char name[ZK_NAME_BYTES])
 {
     if (zk_raw_errno_name((uint64_t)value, (uint8_t *)name) == 0)
@@ -427,7 +432,7 @@ static inline const char *zk_errno_name(int value, char name[ZK_NAME_BYTES])
     return name;
 }
 
-/* Writes what a move did: idle, released, host or passthrough, and answers it; the empty string for any other value. */
+/* The same of what a move did: idle, released, host or passthrough. */
 static inline const char *zk_moved_name(int moved, char name[ZK_NAME_BYTES])
 {
     if (zk_raw_moved_name((uint64_t)moved, (uint8_t *)name) == 0)
