@@ -1,6 +1,6 @@
 // Assigning adapters, domains and control domains to a device by number, and taking them away.
 //
-// Rests on errno, mask, number, numeral, rules, product, layout, record, store, lookup and admit.
+// Rests on errno, mask, numeral, rules, product, layout, record, store, lookup and admit.
 use errno::Errno;
 use layout::SLOTS;
 use layout::Words;

@@ -14,7 +14,7 @@ pub fn assign(
     id: &[u8; ID_BYTES],
     number: u64,
 ) -> u8
-    ensures { λ r. ⌜ AssignsNumber kind (idIn (id .entry)) number (words .entry) (words .exit) (drivers .entry) (drivers .exit) r ⌝ }
+    ensures { λ r. ⌜ AssignsNumber kind (idIn (id .entry)) number words drivers r ⌝ }
 {
     rules::answer_number(assignnumber::assign(
         words,
@@ -31,7 +31,7 @@ pub fn unassign(
     id: &[u8; ID_BYTES],
     number: u64,
 ) -> u8
-    ensures { λ r. ⌜ UnassignsNumber kind (idIn (id .entry)) number (words .entry) (words .exit) (drivers .entry) (drivers .exit) r ⌝ }
+    ensures { λ r. ⌜ UnassignsNumber kind (idIn (id .entry)) number words drivers r ⌝ }
 {
     rules::answer_number(assignnumber::unassign(
         words,

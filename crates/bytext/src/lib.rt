@@ -1,12 +1,11 @@
 // Assigning and unassigning by the text of a number, on a whole record and with an id as bytes: what a caller in C asks for.
 //
-// Rests on rules, fields, layout, model, assign and served.
+// Rests on rules, fields, layout, assign and served.
 use fields::ID_BYTES;
 use layout::Drivers;
 use layout::Words;
 use rules::Kind;
-ghost use Rattle.model.specs.Steps.{unassign};
-ghost use Rattle.served.specs.Served.{idIn, Assigns, Serves};
+ghost use Rattle.served.specs.Served.{idIn, Assigns, Unassigns};
 
 pub fn assign(
     words: &mut Words,
@@ -15,7 +14,7 @@ pub fn assign(
     id: &[u8; ID_BYTES],
     text: &[u8],
 ) -> u8
-    ensures { λ r. ⌜ Assigns kind (idIn (id .entry)) (text .entry) (words .entry) (words .exit) (drivers .entry) (drivers .exit) r ⌝ }
+    ensures { λ r. ⌜ Assigns kind (idIn (id .entry)) (text .entry) words drivers r ⌝ }
 {
     rules::answer_number(assign::assign(words, kind, fields::id_of(id), text))
 }
@@ -27,7 +26,7 @@ pub fn unassign(
     id: &[u8; ID_BYTES],
     text: &[u8],
 ) -> u8
-    ensures { λ r. ⌜ Serves (unassign kind (idIn (id .entry)) (now (text .entry))) (words .entry) (words .exit) (drivers .entry) (drivers .exit) r ⌝ }
+    ensures { λ r. ⌜ Unassigns kind (idIn (id .entry)) (text .entry) words drivers r ⌝ }
 {
     rules::answer_number(assign::unassign(words, kind, fields::id_of(id), text))
 }

@@ -1,13 +1,12 @@
 // The C interface: assigning and unassigning by the text of a number. include/zokormendu.h has the declarations.
 //
-// Rests on rules, fields, layout, model, served and bytext.
+// Rests on rules, fields, layout, served and bytext.
 use fields::ID_BYTES;
 use layout::Drivers;
 use layout::Words;
 use rules::Kind;
 ghost use Rattle.rules.specs.declared.Kind.the-variants.{Adapter, Domain, Control};
-ghost use Rattle.model.specs.Steps.{unassign};
-ghost use Rattle.served.specs.Served.{idIn, Assigns, Serves};
+ghost use Rattle.served.specs.Served.{idIn, Assigns, Unassigns};
 
 #[no_mangle]
 pub extern "C" fn zk_raw_assign_adapter(
@@ -16,7 +15,7 @@ pub extern "C" fn zk_raw_assign_adapter(
     id: &[u8; ID_BYTES],
     text: &[u8],
 ) -> u8
-    ensures { λ r. ⌜ Assigns Adapter (idIn (id .entry)) (text .entry) (words .entry) (words .exit) (drivers .entry) (drivers .exit) r ⌝ }
+    ensures { λ r. ⌜ Assigns Adapter (idIn (id .entry)) (text .entry) words drivers r ⌝ }
 {
     bytext::assign(words, drivers, Kind::Adapter, id, text)
 }
@@ -28,7 +27,7 @@ pub extern "C" fn zk_raw_assign_domain(
     id: &[u8; ID_BYTES],
     text: &[u8],
 ) -> u8
-    ensures { λ r. ⌜ Assigns Domain (idIn (id .entry)) (text .entry) (words .entry) (words .exit) (drivers .entry) (drivers .exit) r ⌝ }
+    ensures { λ r. ⌜ Assigns Domain (idIn (id .entry)) (text .entry) words drivers r ⌝ }
 {
     bytext::assign(words, drivers, Kind::Domain, id, text)
 }
@@ -40,7 +39,7 @@ pub extern "C" fn zk_raw_assign_control_domain(
     id: &[u8; ID_BYTES],
     text: &[u8],
 ) -> u8
-    ensures { λ r. ⌜ Assigns Control (idIn (id .entry)) (text .entry) (words .entry) (words .exit) (drivers .entry) (drivers .exit) r ⌝ }
+    ensures { λ r. ⌜ Assigns Control (idIn (id .entry)) (text .entry) words drivers r ⌝ }
 {
     bytext::assign(words, drivers, Kind::Control, id, text)
 }
@@ -52,7 +51,7 @@ pub extern "C" fn zk_raw_unassign_adapter(
     id: &[u8; ID_BYTES],
     text: &[u8],
 ) -> u8
-    ensures { λ r. ⌜ Serves (unassign Adapter (idIn (id .entry)) (now (text .entry))) (words .entry) (words .exit) (drivers .entry) (drivers .exit) r ⌝ }
+    ensures { λ r. ⌜ Unassigns Adapter (idIn (id .entry)) (text .entry) words drivers r ⌝ }
 {
     bytext::unassign(words, drivers, Kind::Adapter, id, text)
 }
@@ -64,7 +63,7 @@ pub extern "C" fn zk_raw_unassign_domain(
     id: &[u8; ID_BYTES],
     text: &[u8],
 ) -> u8
-    ensures { λ r. ⌜ Serves (unassign Domain (idIn (id .entry)) (now (text .entry))) (words .entry) (words .exit) (drivers .entry) (drivers .exit) r ⌝ }
+    ensures { λ r. ⌜ Unassigns Domain (idIn (id .entry)) (text .entry) words drivers r ⌝ }
 {
     bytext::unassign(words, drivers, Kind::Domain, id, text)
 }
@@ -76,7 +75,7 @@ pub extern "C" fn zk_raw_unassign_control_domain(
     id: &[u8; ID_BYTES],
     text: &[u8],
 ) -> u8
-    ensures { λ r. ⌜ Serves (unassign Control (idIn (id .entry)) (now (text .entry))) (words .entry) (words .exit) (drivers .entry) (drivers .exit) r ⌝ }
+    ensures { λ r. ⌜ Unassigns Control (idIn (id .entry)) (text .entry) words drivers r ⌝ }
 {
     bytext::unassign(words, drivers, Kind::Control, id, text)
 }

@@ -15,7 +15,7 @@ pub extern "C" fn zk_raw_fresh(
     adapter: u64,
     domain: u64,
 ) -> u8
-    ensures { λ r. ⌜ Freshens adapter domain (words .entry) (words .exit) (drivers .entry) (drivers .exit) r ⌝ }
+    ensures { λ r. ⌜ Freshens adapter domain words drivers r ⌝ }
 {
     rules::answer_number(setup::fresh(words, drivers, adapter, domain))
 }
@@ -23,28 +23,28 @@ pub extern "C" fn zk_raw_fresh(
 // The four of a device's life.
 #[no_mangle]
 pub extern "C" fn zk_raw_create(words: &mut Words, drivers: &mut Drivers, id: &[u8; ID_BYTES]) -> u8
-    ensures { λ r. ⌜ Serves (create (idIn (id .entry))) (words .entry) (words .exit) (drivers .entry) (drivers .exit) r ⌝ }
+    ensures { λ r. ⌜ Serves (create (idIn (id .entry))) words drivers r ⌝ }
 {
     whole::create(words, drivers, id)
 }
 
 #[no_mangle]
 pub extern "C" fn zk_raw_remove(words: &mut Words, drivers: &mut Drivers, id: &[u8; ID_BYTES]) -> u8
-    ensures { λ r. ⌜ Serves (remove (idIn (id .entry))) (words .entry) (words .exit) (drivers .entry) (drivers .exit) r ⌝ }
+    ensures { λ r. ⌜ Serves (remove (idIn (id .entry))) words drivers r ⌝ }
 {
     whole::remove(words, drivers, id)
 }
 
 #[no_mangle]
 pub extern "C" fn zk_raw_open(words: &mut Words, drivers: &mut Drivers, id: &[u8; ID_BYTES]) -> u8
-    ensures { λ r. ⌜ Serves (openIt (idIn (id .entry))) (words .entry) (words .exit) (drivers .entry) (drivers .exit) r ⌝ }
+    ensures { λ r. ⌜ Serves (openIt (idIn (id .entry))) words drivers r ⌝ }
 {
     whole::open(words, drivers, id)
 }
 
 #[no_mangle]
 pub extern "C" fn zk_raw_close(words: &mut Words, drivers: &mut Drivers, id: &[u8; ID_BYTES]) -> u8
-    ensures { λ r. ⌜ Serves (closeIt (idIn (id .entry))) (words .entry) (words .exit) (drivers .entry) (drivers .exit) r ⌝ }
+    ensures { λ r. ⌜ Serves (closeIt (idIn (id .entry))) words drivers r ⌝ }
 {
     whole::close(words, drivers, id)
 }

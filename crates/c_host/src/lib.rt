@@ -10,14 +10,14 @@ ghost use Rattle.served.specs.Served.{Serves};
 
 #[no_mangle]
 pub extern "C" fn zk_raw_set_apmask(words: &mut Words, drivers: &mut Drivers, text: &[u8]) -> u8
-    ensures { λ r. ⌜ Serves (setApmask (now (text .entry))) (words .entry) (words .exit) (drivers .entry) (drivers .exit) r ⌝ }
+    ensures { λ r. ⌜ Serves (setApmask (now (text .entry))) words drivers r ⌝ }
 {
     whole::set_apmask(words, drivers, text)
 }
 
 #[no_mangle]
 pub extern "C" fn zk_raw_set_aqmask(words: &mut Words, drivers: &mut Drivers, text: &[u8]) -> u8
-    ensures { λ r. ⌜ Serves (setAqmask (now (text .entry))) (words .entry) (words .exit) (drivers .entry) (drivers .exit) r ⌝ }
+    ensures { λ r. ⌜ Serves (setAqmask (now (text .entry))) words drivers r ⌝ }
 {
     whole::set_aqmask(words, drivers, text)
 }
@@ -29,8 +29,7 @@ pub extern "C" fn zk_raw_configure(
     drivers: &mut Drivers,
     configuration: &[u8; CONFIGURATION_BYTES],
 ) -> u8
-    ensures { λ r. ⌜ Serves (configure (configurationOf (now (configuration .entry))))
-        (words .entry) (words .exit) (drivers .entry) (drivers .exit) r ⌝ }
+    ensures { λ r. ⌜ Serves (configure (configurationOf (now (configuration .entry)))) words drivers r ⌝ }
 {
     whole::configure(words, drivers, configuration)
 }

@@ -44,7 +44,8 @@ pub fn control_domains(
 // Writes the lines of the domains in a mask. The answer is the number of bytes.
 fn write(controls: Mask, text: &mut [u8]) -> usize
     requires { ⌜ length (now text) ≡ 1280 ⌝ }
-    ensures { λ r. ⌜ (now (text .exit) ≡ domainText (bits controls) ++ drop r (now (text .entry))) × (r ≡ length (domainText (bits controls))) ⌝ }
+    ensures { λ r. ⌜ (now (text .exit) ≡ domainText (bits controls) ++ drop r (now (text .entry)))
+        × (r ≡ length (domainText (bits controls))) ⌝ }
 {
     let mut coming = 0usize;
     let mut at = 0usize;

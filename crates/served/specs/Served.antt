@@ -5,6 +5,7 @@ use Prim.Native.Nat.{ℕ, _+_, _*_, min}
 use mathlib.Core.List.{List, []}
 use mathlib.Core.Path.{_≡_}
 use denote.Ref.{now}
+use denote.Triple.Both.{Both}
 use Rattle.rules.specs.declared.Answer.{Answer}
 use Rattle.rules.specs.declared.Id.{Id}
 use Rattle.rules.specs.declared.Kind.{Kind}
@@ -71,32 +72,42 @@ pub record SweepServed (b : ℕ) (m n : Memory) (more r : ℕ) : Type 0 where
 abbrev pub taken : ℕ → ℕ
 taken n = min n 65535
 
--- ---- the same of lent memory at entry and at exit
+-- ---- the same of lent memory
 
-abbrev pub lent : Lent → Lent → Memory
-lent words drivers = memory (now words) (now drivers)
+-- what is lent to be changed, at entry and at exit
+abbrev pub Lending : Type 0
+Lending = Both Lent Lent
 
-abbrev pub Freshens : ℕ → ℕ → Lent → Lent → Lent → Lent → ℕ → Type 0
-Freshens a d words words′ drivers drivers′ r = FreshServed a d (lent words drivers) (lent words′ drivers′) r
+abbrev pub entering : Lending → Lending → Memory
+entering words drivers = memory (now (words .entry)) (now (drivers .entry))
+
+abbrev pub leaving : Lending → Lending → Memory
+leaving words drivers = memory (now (words .exit)) (now (drivers .exit))
+
+abbrev pub Freshens : ℕ → ℕ → Lending → Lending → ℕ → Type 0
+Freshens a d words drivers r = FreshServed a d (entering words drivers) (leaving words drivers) r
 
 -- a command: its answer, every byte, and the call
-abbrev pub Serves : Command → Lent → Lent → Lent → Lent → ℕ → Type 0
-Serves x words words′ drivers drivers′ r = Stepped (command x) (lent words drivers) (lent words′ drivers′) r
+abbrev pub Serves : Command → Lending → Lending → ℕ → Type 0
+Serves x words drivers r = Stepped (command x) (entering words drivers) (leaving words drivers) r
 
-abbrev pub Assigns : Kind → Id → Lent → Lent → Lent → Lent → Lent → ℕ → Type 0
-Assigns k i text words words′ drivers drivers′ r = AssignServed k i (now text) (lent words drivers) (lent words′ drivers′) r
+abbrev pub Assigns : Kind → Id → Lent → Lending → Lending → ℕ → Type 0
+Assigns k i text words drivers r = AssignServed k i (now text) (entering words drivers) (leaving words drivers) r
 
-abbrev pub AssignsNumber : Kind → Id → ℕ → Lent → Lent → Lent → Lent → ℕ → Type 0
-AssignsNumber k i x words words′ drivers drivers′ r =
-    NumberAssigned k i (taken x) (lent words drivers) (lent words′ drivers′) r
+abbrev pub Unassigns : Kind → Id → Lent → Lending → Lending → ℕ → Type 0
+Unassigns k i text words drivers r = Serves (unassign k i (now text)) words drivers r
 
-abbrev pub UnassignsNumber : Kind → Id → ℕ → Lent → Lent → Lent → Lent → ℕ → Type 0
-UnassignsNumber k i x words words′ drivers drivers′ r =
-    NumberUnassigned k i (taken x) (lent words drivers) (lent words′ drivers′) r
+abbrev pub AssignsNumber : Kind → Id → ℕ → Lending → Lending → ℕ → Type 0
+AssignsNumber k i x words drivers r = NumberAssigned k i (taken x) (entering words drivers) (leaving words drivers) r
 
--- a move of the queue of an adapter and a domain: what it did, every byte, and the call
-abbrev pub Moves : ℕ → ℕ → Lent → Lent → Lent → ℕ → Type 0
-Moves a d words drivers drivers′ r = Stepped (move a d) (lent words drivers) (lent words drivers′) r
+abbrev pub UnassignsNumber : Kind → Id → ℕ → Lending → Lending → ℕ → Type 0
+UnassignsNumber k i x words drivers r = NumberUnassigned k i (taken x) (entering words drivers) (leaving words drivers) r
 
-abbrev pub Sweeps : ℕ → Lent → Lent → Lent → LentNumber → ℕ → Type 0
-Sweeps b words drivers drivers′ more r = SweepServed b (lent words drivers) (lent words drivers′) (now more) r
+-- a move of the queue of an adapter and a domain, of words that are only read: what it did, every byte, and the call
+abbrev pub Moves : ℕ → ℕ → Lent → Lending → ℕ → Type 0
+Moves a d words drivers r =
+    Stepped (move a d) (memory (now words) (now (drivers .entry))) (memory (now words) (now (drivers .exit))) r
+
+abbrev pub Sweeps : ℕ → Lent → Lending → LentNumber → ℕ → Type 0
+Sweeps b words drivers more r =
+    SweepServed b (memory (now words) (now (drivers .entry))) (memory (now words) (now (drivers .exit))) (now more) r

@@ -10,37 +10,37 @@ ghost use Rattle.model.specs.Steps.{create, remove, openIt, closeIt, setApmask,
 ghost use Rattle.served.specs.Served.{idIn, Serves};
 
 pub fn create(words: &mut Words, drivers: &mut Drivers, id: &[u8; ID_BYTES]) -> u8
-    ensures { λ r. ⌜ Serves (create (idIn (id .entry))) (words .entry) (words .exit) (drivers .entry) (drivers .exit) r ⌝ }
+    ensures { λ r. ⌜ Serves (create (idIn (id .entry))) words drivers r ⌝ }
 {
     rules::answer_number(create::create(words, fields::id_of(id)))
 }
 
 pub fn remove(words: &mut Words, drivers: &mut Drivers, id: &[u8; ID_BYTES]) -> u8
-    ensures { λ r. ⌜ Serves (remove (idIn (id .entry))) (words .entry) (words .exit) (drivers .entry) (drivers .exit) r ⌝ }
+    ensures { λ r. ⌜ Serves (remove (idIn (id .entry))) words drivers r ⌝ }
 {
     rules::answer_number(devices::remove(words, fields::id_of(id)))
 }
 
 pub fn open(words: &mut Words, drivers: &mut Drivers, id: &[u8; ID_BYTES]) -> u8
-    ensures { λ r. ⌜ Serves (openIt (idIn (id .entry))) (words .entry) (words .exit) (drivers .entry) (drivers .exit) r ⌝ }
+    ensures { λ r. ⌜ Serves (openIt (idIn (id .entry))) words drivers r ⌝ }
 {
     rules::answer_number(devices::open(words, fields::id_of(id)))
 }
 
 pub fn close(words: &mut Words, drivers: &mut Drivers, id: &[u8; ID_BYTES]) -> u8
-    ensures { λ r. ⌜ Serves (closeIt (idIn (id .entry))) (words .entry) (words .exit) (drivers .entry) (drivers .exit) r ⌝ }
+    ensures { λ r. ⌜ Serves (closeIt (idIn (id .entry))) words drivers r ⌝ }
 {
     rules::answer_number(devices::close(words, fields::id_of(id)))
 }
 
 pub fn set_apmask(words: &mut Words, drivers: &mut Drivers, text: &[u8]) -> u8
-    ensures { λ r. ⌜ Serves (setApmask (now (text .entry))) (words .entry) (words .exit) (drivers .entry) (drivers .exit) r ⌝ }
+    ensures { λ r. ⌜ Serves (setApmask (now (text .entry))) words drivers r ⌝ }
 {
     rules::answer_number(host::set_apmask(words, text))
 }
 
 pub fn set_aqmask(words: &mut Words, drivers: &mut Drivers, text: &[u8]) -> u8
-    ensures { λ r. ⌜ Serves (setAqmask (now (text .entry))) (words .entry) (words .exit) (drivers .entry) (drivers .exit) r ⌝ }
+    ensures { λ r. ⌜ Serves (setAqmask (now (text .entry))) words drivers r ⌝ }
 {
     rules::answer_number(host::set_aqmask(words, text))
 }
@@ -51,8 +51,7 @@ pub fn configure(
     drivers: &mut Drivers,
     configuration: &[u8; CONFIGURATION_BYTES],
 ) -> u8
-    ensures { λ r. ⌜ Serves (configure (configurationOf (now (configuration .entry))))
-        (words .entry) (words .exit) (drivers .entry) (drivers .exit) r ⌝ }
+    ensures { λ r. ⌜ Serves (configure (configurationOf (now (configuration .entry)))) words drivers r ⌝ }
 {
     rules::answer_number(configure::configure(
         words,
