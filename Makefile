@@ -1,4 +1,4 @@
-# Two commands for a stranger: `make run` shows what there is to see, `make test` is the gate.
+# Two commands for a stranger: `make run` shows what there is to see, `make test` is the gate. GNU make and bash.
 SHELL = /bin/bash
 .SHELLFLAGS = -o pipefail -c
 .PHONY: run test expected clean
@@ -34,7 +34,8 @@ EXPORTS = c_record c_devices c_assign c_number c_host c_queues c_matrix c_look c
 
 library: $(LIB)
 
-$(LIB): $(shell find crates.txt crates -type f)
+# The folders are named too, so that a file that is gone is seen.
+$(LIB): $(shell find crates.txt crates)
 	@echo "making $(LIB): on a fresh clone some five minutes, a line for each crate as it is proved"
 	@$(call show,rt check $(EXPORTS),target/library.log)
 	@rm -rf target/lib && mkdir -p target/lib/objects
@@ -47,15 +48,17 @@ $(LIB): $(shell find crates.txt crates -type f)
 	@echo "$(LIB): $$(nm -g $(LIB) | grep -c ' T zk_raw_') functions"
 
 PREFIX = /usr/local
+LIBDIR = $(PREFIX)/lib
 DESTDIR =
 VERSION = $(shell sed -n 's/^.define ZK_VERSION_STRING "\(.*\)"/\1/p' include/zokormendu.h)
 
 install: library
-	install -d "$(DESTDIR)$(PREFIX)/include" "$(DESTDIR)$(PREFIX)/lib/pkgconfig"
+	@case "$(LIBDIR)" in /*) ;; *) echo "PREFIX must be an absolute path"; exit 1 ;; esac
+	install -d "$(DESTDIR)$(PREFIX)/include" "$(DESTDIR)$(LIBDIR)/pkgconfig"
 	install -m 644 include/zokormendu.h "$(DESTDIR)$(PREFIX)/include/zokormendu.h"
-	install -m 644 $(LIB) "$(DESTDIR)$(PREFIX)/lib/libzokormendu.a"
-	sed 's|@PREFIX@|$(PREFIX)|; s|@VERSION@|$(VERSION)|' zokormendu.pc.in >target/lib/zokormendu.pc
-	install -m 644 target/lib/zokormendu.pc "$(DESTDIR)$(PREFIX)/lib/pkgconfig/zokormendu.pc"
+	install -m 644 $(LIB) "$(DESTDIR)$(LIBDIR)/libzokormendu.a"
+	{ echo 'prefix=$(PREFIX)'; echo 'libdir=$(LIBDIR)'; sed 's/@VERSION@/$(VERSION)/' zokormendu.pc.in; } >target/lib/zokormendu.pc
+	install -m 644 target/lib/zokormendu.pc "$(DESTDIR)$(LIBDIR)/pkgconfig/zokormendu.pc"
 
 # A C program over an installed copy of the library, linked as README says and held to its expected output; the header is
 # C++ too.
@@ -63,10 +66,11 @@ CFLAGS = -std=c11 -Wall -Wextra -pedantic -Werror -O2
 COPY = $(CURDIR)/target/example-c/installed
 USE = PKG_CONFIG_PATH="$(COPY)/lib/pkgconfig" pkg-config
 
-example:
+example: library
 	@$(MAKE) --no-print-directory install PREFIX="$(COPY)" DESTDIR=
-	c++ -Wall -Wextra -pedantic -Werror -fsyntax-only -x c++ "$(COPY)/include/zokormendu.h"
-	cc $(CFLAGS) $$($(USE) --cflags zokormendu) -o target/example-c/guests example-c/guests.c $$($(USE) --libs zokormendu)
+	c++ -std=c++11 -Wall -Wextra -pedantic -Werror -fsyntax-only -x c++ "$(COPY)/include/zokormendu.h"
+	eval "cc $(CFLAGS) -c $$($(USE) --cflags zokormendu) -o target/example-c/guests.o example-c/guests.c"
+	eval "cc -o target/example-c/guests target/example-c/guests.o $$($(USE) --libs zokormendu)"
 	@target/example-c/guests >target/example-c/guests.out
 	@cat target/example-c/guests.out
 	@diff example-c/guests.expected target/example-c/guests.out && echo "example: agrees"

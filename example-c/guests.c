@@ -115,17 +115,24 @@ static void list(const struct guest *g)
     putchar('\n');
 }
 
-static void usable(const struct guest *g, uint8_t apid, uint8_t apqi)
+static void print_queue(struct zk_apqn queue)
 {
-    int yes = zk_usable(&record, g->id, apid, apqi);
-    printf("%s can use %02x.%04x: %s\n", g->name, (unsigned)apid, (unsigned)apqi, yes ? "yes" : "no");
+    printf("%02x.%04x", (unsigned)queue.apid, (unsigned)queue.apqi);
 }
 
-static void move(uint8_t apid, uint8_t apqi)
+static void usable(const struct guest *g, struct zk_apqn queue)
+{
+    printf("%s can use ", g->name);
+    print_queue(queue);
+    printf(": %s\n", zk_usable(&record, g->id, queue) ? "yes" : "no");
+}
+
+static void move(struct zk_apqn queue)
 {
     char name[ZK_NAME_BYTES];
-    int moved = zk_move(&record, apid, apqi);
-    printf("move %02x.%04x: %s\n", (unsigned)apid, (unsigned)apqi, zk_moved_name(moved, name));
+    printf("move ");
+    print_queue(queue);
+    printf(": %s\n", zk_moved_name(zk_move(&record, queue), name));
 }
 
 static const char *name_of(const uint8_t *id)
@@ -137,13 +144,14 @@ static const char *name_of(const uint8_t *id)
     return "a device of somebody else";
 }
 
-static void look(uint8_t apid, uint8_t apqi)
+static void look(struct zk_apqn queue)
 {
     static const char *const drivers[] = {"unbound", "host", "passthrough"};
     uint8_t id[ZK_ID_BYTES];
-    const char *holder = zk_holder(&record, apid, apqi, id) == 0 ? name_of(id) : "nobody";
-    printf("%02x.%04x: assigned to %s, driver %s, target %s\n", (unsigned)apid, (unsigned)apqi, holder,
-           drivers[zk_driver(&record, apid, apqi)], drivers[zk_target(&record, apid, apqi)]);
+    const char *holder = zk_holder(&record, queue, id) == 0 ? name_of(id) : "nobody";
+    print_queue(queue);
+    printf(": assigned to %s, driver %s, target %s\n", holder, drivers[zk_driver(&record, queue)],
+           drivers[zk_target(&record, queue)]);
 }
 
 static void devices(void)
@@ -164,8 +172,11 @@ static void control_domains(const struct guest *g)
 
 int main(void)
 {
+    const struct zk_apqn live = {.apid = 5, .apqi = 4};
+    const struct zk_apqn back = {.apid = 6, .apqi = 0xff};
+
     printf("fresh: ");
-    say(zk_fresh(&record, 255, 255));
+    say(zk_fresh(&record, (struct zk_limits){.adapter = 255, .domain = 255}));
 
     /* secure the queues, so that the host's drivers leave them */
     set_apmask("-5,-6");
@@ -200,8 +211,8 @@ int main(void)
     assign_domain(&rehearsal, "4");
     open_device(&rehearsal);
     list(&rehearsal);
-    usable(&guest1, 5, 4);
-    usable(&rehearsal, 5, 4);
+    usable(&guest1, live);
+    usable(&rehearsal, live);
 
     /* A domain goes: its queues are unbound at once. It comes back: until 06.00ff is bound again, Guest3 lacks adapter 6. */
     printf("configure without domain 0xff: ");
@@ -210,13 +221,13 @@ int main(void)
     printf("configure with domain 0xff again: ");
     say(configure(4));
     list(&guest3);
-    move(6, 0xff);
-    move(6, 0xff);
+    move(back);
+    move(back);
     list(&guest3);
     sweep();
 
-    look(5, 4);
-    look(7, 4);
+    look(live);
+    look((struct zk_apqn){.apid = 7, .apqi = 4});
 
     /* The end of Guest2, whose queue 05.0047 can then be another's. */
     printf("close Guest2: ");

@@ -2,26 +2,32 @@
  * Which KVM guest gets which queue of a crypto card: the C interface of a proved library.
  *
  * A queue is named by an adapter (APID) and a usage domain (APQI), both from 0 to 255. A mediated device, which has a
- * 16-byte id (its UUID), stands for a guest. The names are those of the kernel's vfio_ap attributes.
+ * 16-byte id (its UUID), stands for a guest. The names are those of the kernel's vfio_ap attributes. C11 or C++11.
  *
  * RULES
- *  - A queue is reserved for the host where apmask has its adapter AND aqmask has its domain. It takes both.
- *  - The driver that a queue should have, its target: none where its adapter or its usage domain is not configured; else
- *    the host's where it is reserved; else passthrough where the adapter's hardware type is 10 or higher; else none.
- *  - A driver changes by moves alone, a queue at a time (a configuration only takes drivers away, at once). So each change
- *    of apmask, aqmask or the configuration is followed by a sweep, and until then guests go without.
+ *  - A queue is reserved for the host where apmask has its adapter AND aqmask has its domain. It takes both, so a bit
+ *    that is cleared in one of them frees all queues of that adapter or domain, whatever the other has.
+ *  - The driver that a queue should have, its target: unbound where its adapter or its usage domain is not configured; else
+ *    the host's where it is reserved; else passthrough where the adapter's hardware type is 10 or higher; else unbound.
+ *  - Drivers change by moves alone, a queue at a time, but for queues that a new configuration lacks: these are unbound
+ *    at once. So each change of apmask, aqmask or the configuration is followed by a sweep. Until then drivers, and with
+ *    them what guests get, are the old ones: a guest can lack a queue that it should get, and keep one that it should lose.
  *  - A device's matrix is each of its adapters with each of its domains. A number is refused if it would add a queue that
- *    is reserved, or one that another device has, open or not, configured or not. Control domains may be shared.
+ *    is reserved, or one that another device has, open or not, configured or not; a new apmask or aqmask if a queue that
+ *    is then reserved is in some device's matrix. Control domains may be shared.
  *  - Its guest_matrix has the domains that are assigned and configured, and of the adapters that are assigned and
  *    configured those whose queues with all of these domains are bound to passthrough. ONE QUEUE THAT IS NOT DROPS THE
  *    WHOLE ADAPTER. Control domains count where they are assigned as such and configured as such.
- *  - A guest can use a queue while its device is open and its guest_matrix has the queue.
+ *  - A guest can use a queue while its device is open and its guest_matrix has the queue. Assigning, unassigning, masks
+ *    and configurations are allowed while guests run, and count at once.
  *
  * FROM BOOT TO A GUEST AND ITS END
- *     zk_fresh                                     a record, with every queue reserved for the host
- *     zk_set_apmask, zk_set_aqmask                 "-5,-6" takes adapters 5 and 6 from the host, where aqmask agrees
+ *     zk_fresh                                     a record, with every queue reserved for the host; the limits are the
+ *                                                  highest numbers that can be assigned or configured
+ *     zk_set_apmask, zk_set_aqmask                 "-5,-6" as apmask takes every queue of adapters 5 and 6 from the host,
+ *                                                  "-4" as aqmask every queue of domain 4
  *     zk_configure                                 what the partition has; again whenever that changes
- *     zk_sweep                                     binds the queues; after each of the two lines above
+ *     zk_sweep                                     binds the queues; again after each of the lines above
  *     zk_create, zk_assign_adapter, zk_assign_domain, zk_assign_control_domain
  *     zk_open                                      as the guest starts
  *     zk_guest_matrix_masks                        the guest's three masks; read them again after every call that changed
@@ -102,6 +108,18 @@ extern "C" {
 #define ZK_BOUND_HOST 2
 #define ZK_BOUND_PASSTHROUGH 3
 
+/* A queue. Its numbers go by name, so that no call can exchange them. */
+struct zk_apqn {
+    uint8_t apid;
+    uint8_t apqi;
+};
+
+/* The highest adapter and domain numbers, each at most 255. */
+struct zk_limits {
+    uint64_t adapter;
+    uint64_t domain;
+};
+
 /* A record. */
 struct zk_record {
     uint64_t words[ZK_WORDS];
@@ -116,7 +134,8 @@ _Static_assert(sizeof(struct zk_record) == ZK_RECORD_BYTES, "the size of a recor
 
 /*
  * What the archive exports, for callers that cannot use the inline functions below: the same calls, with the record as its
- * two arrays, text as bytes, and an answer as the byte that it fits into.
+ * two arrays (apart from each other, the words aligned as uint64_t), a queue as its two numbers, text as bytes, and an
+ * answer as the byte that it fits into.
  */
 uint8_t zk_raw_fresh(uint64_t *words, uint8_t *drivers, uint64_t highest_adapter, uint64_t highest_domain);
 uint8_t zk_raw_create(uint64_t *words, uint8_t *drivers, const uint8_t *id);
@@ -166,10 +185,13 @@ size_t zk_raw_moved_name(uint64_t value, uint8_t *name);
 
 /* ---- the record ---- */
 
-/* Makes a fresh record: both host masks all ones, nothing configured, every queue unbound, no device; 0 or EINVAL. */
-static inline int zk_fresh(struct zk_record *record, uint64_t highest_adapter, uint64_t highest_domain)
+/*
+ * Makes a fresh record: both host masks all ones, nothing configured, every queue unbound, no device; 0, or EINVAL for a
+ * limit above 255.
+ */
+static inline int zk_fresh(struct zk_record *record, struct zk_limits limits)
 {
-    return zk_raw_fresh(record->words, record->drivers, highest_adapter, highest_domain);
+    return zk_raw_fresh(record->words, record->drivers, limits.adapter, limits.domain);
 }
 
 /* Answers the limits that the record was made with, 0 to 255. */
@@ -185,7 +207,7 @@ static inline int zk_highest_domain(const struct zk_record *record)
 
 /* ---- the host ---- */
 
-/* Replaces apmask or aqmask; 0, EINVAL or EADDRINUSE. A sweep is due then. */
+/* Replaces apmask or aqmask; bits above the limits are allowed; 0, EINVAL or EADDRINUSE. A sweep is due then. */
 static inline int zk_set_apmask(struct zk_record *record, const char *text, size_t length)
 {
     return zk_raw_set_apmask(record->words, record->drivers, (const uint8_t *)text, length);
@@ -226,9 +248,9 @@ static inline void zk_configuration(const struct zk_record *record, uint8_t conf
 /* ---- queues ---- */
 
 /* Brings one queue a step nearer to its target; answers what it did, ZK_IDLE and so on. */
-static inline int zk_move(struct zk_record *record, uint8_t apid, uint8_t apqi)
+static inline int zk_move(struct zk_record *record, struct zk_apqn queue)
 {
-    return zk_raw_move(record->words, record->drivers, apid, apqi);
+    return zk_raw_move(record->words, record->drivers, queue.apid, queue.apqi);
 }
 
 /* Makes up to `budget` moves by ascending queue; answers those made, and *more is 1 where moves remain, else 0. */
@@ -244,27 +266,27 @@ static inline uint32_t zk_remaining(const struct zk_record *record)
 }
 
 /* Answers the driver that a queue has: ZK_UNBOUND, ZK_HOST or ZK_PASSTHROUGH. */
-static inline int zk_driver(const struct zk_record *record, uint8_t apid, uint8_t apqi)
+static inline int zk_driver(const struct zk_record *record, struct zk_apqn queue)
 {
-    return zk_raw_driver(record->words, record->drivers, apid, apqi);
+    return zk_raw_driver(record->words, record->drivers, queue.apid, queue.apqi);
 }
 
 /* Answers the driver that a queue should have. */
-static inline int zk_target(const struct zk_record *record, uint8_t apid, uint8_t apqi)
+static inline int zk_target(const struct zk_record *record, struct zk_apqn queue)
 {
-    return zk_raw_target(record->words, record->drivers, apid, apqi);
+    return zk_raw_target(record->words, record->drivers, queue.apid, queue.apqi);
 }
 
 /* Writes the id of the device whose matrix has the queue, open or not, configured or not; 0, or ENOENT where none has. */
-static inline int zk_holder(const struct zk_record *record, uint8_t apid, uint8_t apqi, uint8_t id[ZK_ID_BYTES])
+static inline int zk_holder(const struct zk_record *record, struct zk_apqn queue, uint8_t id[ZK_ID_BYTES])
 {
-    return zk_raw_holder(record->words, record->drivers, apid, apqi, id);
+    return zk_raw_holder(record->words, record->drivers, queue.apid, queue.apqi, id);
 }
 
 /* Answers 1 where the device's guest can use the queue now, else 0, also where there is no such device. */
-static inline int zk_usable(const struct zk_record *record, const uint8_t id[ZK_ID_BYTES], uint8_t apid, uint8_t apqi)
+static inline int zk_usable(const struct zk_record *record, const uint8_t id[ZK_ID_BYTES], struct zk_apqn queue)
 {
-    return zk_raw_usable(record->words, record->drivers, id, apid, apqi);
+    return zk_raw_usable(record->words, record->drivers, id, queue.apid, queue.apqi);
 }
 
 /* ---- mediated devices ---- */
@@ -384,7 +406,7 @@ static inline int zk_matrix_masks(const struct zk_record *record, const uint8_t 
     return zk_raw_matrix_masks(record->words, record->drivers, id, masks);
 }
 
-/* The same of its guest_matrix: what its guest gets while the device is open. */
+/* The same of its guest_matrix: what its guest gets while the device is open. Adapters without a domain are no queues. */
 static inline int zk_guest_matrix_masks(const struct zk_record *record, const uint8_t id[ZK_ID_BYTES],
                                         uint8_t masks[ZK_MASKS_BYTES])
 {
@@ -394,7 +416,8 @@ static inline int zk_guest_matrix_masks(const struct zk_record *record, const ui
 /*
  * Lists a device's matrix as the kernel does, by ascending queue from a place (APID * 256 + APQI) on, whole lines only, as
  * many as fit; 0, ENOENT or ENOSPC. *written is the number of bytes; the bytes after them stay as they were. *next is the
- * place to go on from, and ZK_QUEUES where nothing is left. A refused call leaves both as they were.
+ * place to go on from, and ZK_QUEUES where nothing is left, also for a place of ZK_QUEUES or more. A refused call leaves
+ * both as they were.
  */
 static inline int zk_matrix(const struct zk_record *record, const uint8_t id[ZK_ID_BYTES], size_t place, char *buffer,
                             size_t length, size_t *written, size_t *next)
@@ -422,8 +445,8 @@ static inline int zk_control_domains(const struct zk_record *record, const uint8
 /* ---- names ---- */
 
 /*
- * Writes the name of an errno value, as EADDRINUSE, and zeros after it, and answers it; for any other value the empty
- * string, and the rest of the buffer stays as it was.
+ * Writes the name of one of the refusals above, as EADDRINUSE, and zeros after it, and answers it; for any other value the
+ * empty string, and the rest of the buffer stays as it was.
  */
 static inline const char *zk_errno_name(int value, char name[ZK_NAME_BYTES])
 {

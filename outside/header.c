@@ -20,6 +20,9 @@
         zk_##name arguments;                     \
     }
 
+/* The queue of two parameters. */
+#define QUEUE ((struct zk_apqn){.apid = apid, .apqi = apqi})
+
 /* Those that change a device: by its id, with a number as text, and with a number. */
 #define ID_TWIN(name) TWIN(int, name, (struct zk_record *record, const uint8_t *id), (record, id))
 #define TEXT_TWIN(name)                                                                             \
@@ -29,7 +32,8 @@
     TWIN(int, name, (struct zk_record *record, const uint8_t *id, uint64_t number), (record, id, number))
 
 /* The record. */
-TWIN(int, fresh, (struct zk_record *record, uint64_t adapter, uint64_t domain), (record, adapter, domain))
+TWIN(int, fresh, (struct zk_record *record, uint64_t adapter, uint64_t domain),
+     (record, (struct zk_limits){.adapter = adapter, .domain = domain}))
 TWIN(int, highest_adapter, (const struct zk_record *record), (record))
 TWIN(int, highest_domain, (const struct zk_record *record), (record))
 
@@ -42,13 +46,13 @@ TWIN(int, configure, (struct zk_record *record, const uint8_t *configuration), (
 SILENT_TWIN(configuration, (const struct zk_record *record, uint8_t *configuration), (record, configuration))
 
 /* Queues. */
-TWIN(int, move, (struct zk_record *record, uint8_t apid, uint8_t apqi), (record, apid, apqi))
+TWIN(int, move, (struct zk_record *record, uint8_t apid, uint8_t apqi), (record, QUEUE))
 TWIN(uint32_t, sweep, (struct zk_record *record, uint32_t budget, uint8_t *more), (record, budget, more))
 TWIN(uint32_t, remaining, (const struct zk_record *record), (record))
-TWIN(int, driver, (const struct zk_record *record, uint8_t apid, uint8_t apqi), (record, apid, apqi))
-TWIN(int, target, (const struct zk_record *record, uint8_t apid, uint8_t apqi), (record, apid, apqi))
-TWIN(int, holder, (const struct zk_record *record, uint8_t apid, uint8_t apqi, uint8_t *id), (record, apid, apqi, id))
-TWIN(int, usable, (const struct zk_record *record, const uint8_t *id, uint8_t apid, uint8_t apqi), (record, id, apid, apqi))
+TWIN(int, driver, (const struct zk_record *record, uint8_t apid, uint8_t apqi), (record, QUEUE))
+TWIN(int, target, (const struct zk_record *record, uint8_t apid, uint8_t apqi), (record, QUEUE))
+TWIN(int, holder, (const struct zk_record *record, uint8_t apid, uint8_t apqi, uint8_t *id), (record, QUEUE, id))
+TWIN(int, usable, (const struct zk_record *record, const uint8_t *id, uint8_t apid, uint8_t apqi), (record, id, QUEUE))
 
 /* Mediated devices. */
 ID_TWIN(create)

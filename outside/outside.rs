@@ -5,7 +5,7 @@
 //!
 //! Arguments: the seed (default 1), the limit in seconds (default 120), and the most steps (default none).
 //! The same seed makes the same steps; the limits only end the run. Exit status 0: nothing differed, and each of the eight
-//! refusals was met.
+//! refusals was met, and each that an assignment by number can have.
 
 use std::collections::BTreeMap;
 use std::ffi::c_int;
@@ -2117,8 +2117,16 @@ fn main() {
         }
         println!();
     }
-    let missing: Vec<&str> =
-        NAMES.iter().filter(|(v, _)| run.refused[*v as usize] == 0).map(|(_, name)| *name).collect();
+    // each of the eight, and by number the four that there are
+    let mut missing: Vec<String> = Vec::new();
+    for (v, name) in NAMES {
+        if run.refused[v as usize] == 0 {
+            missing.push(name.to_string());
+        }
+        if [2, 19, 98, 99].contains(&v) && run.by_number[v as usize] == 0 {
+            missing.push(format!("{name} by number"));
+        }
+    }
     if !missing.is_empty() {
         println!("NOT MET: {}", missing.join(", "));
         std::process::exit(1);

@@ -25,7 +25,8 @@ pub one-bit : (n : ℕ) {m o : Bits} → m ≡ included n o → o ≡ noBits →
 unfolding included noBits single
 one-bit n e f = e ∙ ap (included n) f ∙ fun-ext (λ i. or-false (eqb i n))
 
-limit-small : (k : Kind) (ws : List ℕ) → limitOf k (limitsIn ws) ≤ 255
+-- a limit is at most 255
+pub limit-small : (k : Kind) (ws : List ℕ) → limitOf k (limitsIn ws) ≤ 255
 unfolding limitOf limitsIn
 limit-small Adapter ws = omega arith
 limit-small Domain ws = omega arith

@@ -18,10 +18,10 @@ ghost use Rattle.product.specs.Meet.{queuesOf};
 ghost use Rattle.admit.specs.Admits.{Admits};
 
 // Whether a number is at most the limit of its kind.
-pub fn in_range(words: &Words, kind: Kind, number: u16) -> bool
+pub fn in_range(words: &Words, kind: Kind, number: u64) -> bool
     ensures { λ r. ⌜ r ≡ leb number (limitOf kind (limits (words .entry))) ⌝ }
 {
-    number <= (limit(words, kind) as u16)
+    number <= (limit(words, kind) as u64)
 }
 
 // The limit of a kind of number.

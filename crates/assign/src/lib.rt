@@ -1,6 +1,6 @@
 // Assigning adapters, domains and control domains to a device by the text of a number, and taking them away.
 //
-// Rests on errno, number, rules, layout and assignnumber.
+// Rests on errno, number, numeral, rules, layout, admit and assignnumber.
 use errno::Errno;
 use layout::Words;
 use number::Number;
@@ -14,7 +14,7 @@ pub fn assign(words: &mut Words, kind: Kind, id: Id, text: &[u8]) -> Answer
     ensures { λ r. ⌜ Assigns kind id (text .entry) (words .entry) (words .exit) r ⌝ }
 {
     match number::parse(text) {
-        Number::Value(n) => assignnumber::assign(words, kind, id, n),
+        Number::Value(n) => assignnumber::assign(words, kind, id, n as u64),
         Number::Bad => Answer::Refused(Errno::Einval),
     }
 }
@@ -24,7 +24,7 @@ pub fn unassign(words: &mut Words, kind: Kind, id: Id, text: &[u8]) -> Answer
     ensures { λ r. ⌜ Unassigns kind id (text .entry) (words .entry) (words .exit) r ⌝ }
 {
     match number::parse(text) {
-        Number::Value(n) => assignnumber::unassign(words, kind, id, n),
+        Number::Value(n) => assignnumber::unassign(words, kind, id, n as u64),
         Number::Bad => Answer::Refused(Errno::Einval),
     }
 }

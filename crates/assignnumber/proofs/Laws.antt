@@ -1,6 +1,6 @@
 -- What assigning writes and reads, the rule at a slot, and where a number goes.
 -- Assumes nothing.
-use Prim.Native.Nat.{ℕ, zero, suc, _+_, _^_, _≤_, _<_}
+use Prim.Native.Nat.{ℕ, zero, suc, _+_, _^_, _<_}
 use native.Mathlib.Omega.{arith}
 use mathlib.Core.Bool.{Bool, true, false, cond}
 use mathlib.Core.List.{List, []}
@@ -13,20 +13,18 @@ use Rattle.errno.specs.declared.Errno.{Errno}
 use Rattle.errno.specs.declared.Errno.the-variants.{Enoent, Enodev}
 use Rattle.mask.specs.declared.Mask.{Mask}
 use Rattle.mask.specs.Bits.{Sized, Bits, bits, included}
-use Rattle.numeral.specs.Numeral.{numeral}
-use Rattle.numeral.proofs.Laws.{says}
 use Rattle.rules.specs.declared.Answer.{Answer}
 use Rattle.rules.specs.declared.Answer.the-variants.{Refused}
 use Rattle.rules.specs.declared.Id.{Id}
 use Rattle.rules.specs.declared.Kind.{Kind}
 use Rattle.rules.specs.State.{State, slots}
-use Rattle.rules.specs.Commands.{numbersOf, withNumbers, withDevice, onDevice, slotOf, limitOf, reading, assignAt, adding, paired, assign, assignNumber}
-use Rattle.rules.specs.Refusals.{RefusedExactly}
-use Rattle.rules.proofs.Refusals.{absorbed, refused-exactly}
+use Rattle.rules.specs.Commands.{numbersOf, withNumbers, withDevice, onDevice, slotOf, limitOf, assignAt, adding, paired, assignNumber}
+use Rattle.rules.specs.Refusals.{NumberRefusedExactly}
+use Rattle.rules.proofs.Refusals.{absorbed, number-refused-exactly}
 use Rattle.layout.specs.Carried.{CarriedWords}
 use Rattle.layout.specs.Layout.{wordCount, four, maskAt, deviceIn, limitsIn, hostIn, stateIn, wordsOf, putFour, putNumbers, deviceAt, kindAt}
 use Rattle.layout.proofs.Laws.{cond-below, device-there, numbers-there, words-of, put-same, read-numbers, refused-carried, carried-as}
-use Rattle.assignnumber.specs.Numbers.{changed, assignedTo, locatedIn, NumberRefusedExactly}
+use Rattle.assignnumber.specs.Numbers.{changed, assignedTo, locatedIn}
 use Rattle.assignnumber.specs.declared.Located.{Located}
 use Rattle.assignnumber.specs.declared.Located.the-variants.{At, Nowhere}
 
@@ -153,9 +151,8 @@ module _ (k : Kind) (i : Id) (n : ℕ) (ws : List ℕ) where
       sym (ap (λ (j : ℕ). cond (ltb j slots) (cond (leb n (limitOf k (limitsIn ws))) (At j n) (Nowhere Enodev)) (Nowhere Enoent)) (sym f)
       ∙ ap₂ (λ (a b : Bool). cond a (cond b (At p n) (Nowhere Enodev)) (Nowhere Enoent)) ta tb)
 
-  -- the answer is a refusal exactly where demand 2 says: its sentence, of the text of the number
-  pub exact : n ≤ 65535 → {vs : List ℕ} {r : Answer} → CarriedWords (assignNumber k i n) (assignedTo k i n) ws vs r
+  -- the answer is a refusal exactly where demand 2 says
+  pub exact : {vs : List ℕ} {r : Answer} → CarriedWords (assignNumber k i n) (assignedTo k i n) ws vs r
       → NumberRefusedExactly k i n (limitsIn ws) (hostIn ws) (deviceIn ws) r
-  unfolding NumberRefusedExactly RefusedExactly stateIn assign reading
-  exact small {vs} {r} c h l =
-      refused-exactly k i (numeral n) (stateIn ws []) r (rw (says n small) (c [] .answer)) n (says n small) h l
+  unfolding stateIn
+  exact {vs} {r} c = number-refused-exactly k i n (stateIn ws []) r (c [] .answer)

@@ -1,11 +1,9 @@
 -- What assigning and unassigning a number write: one mask of one device.
 -- The rules: RULES.md, "Commands".
 -- Assumes nothing.
-use Prim.Native.Nat.{ℕ, _≤_, _<_}
+use Prim.Native.Nat.{ℕ}
 use mathlib.Core.Bool.{cond}
 use mathlib.Core.List.{List}
-use mathlib.Core.Path.{_≡_}
-use mathlib.Core.Logic.{_↔_}
 use lib.Dec.{ltb, leb}
 use denote.Ref.{now}
 use Rattle.errno.specs.declared.Errno.the-variants.{Enoent, Enodev}
@@ -13,9 +11,9 @@ use Rattle.mask.specs.Bits.{Bits, included, excluded}
 use Rattle.rules.specs.declared.Id.{Id}
 use Rattle.rules.specs.declared.Kind.{Kind}
 use Rattle.rules.specs.declared.Answer.{Answer}
-use Rattle.rules.specs.State.{Limits, HostMasks, Devices, slots}
-use Rattle.rules.specs.Commands.{answered, slotOf, limitOf, numbersOf, assignNumber, unassignNumber}
-use Rattle.rules.specs.Refusals.{Clash}
+use Rattle.rules.specs.State.{slots}
+use Rattle.rules.specs.Commands.{slotOf, limitOf, numbersOf, assignNumber, unassignNumber}
+use Rattle.rules.specs.Refusals.{NumberRefusedExactly}
 use Rattle.layout.specs.Layout.{limitsIn, hostIn, deviceIn, putNumbers, wordsOf}
 use Rattle.layout.specs.Lent.{Lent}
 use Rattle.layout.specs.Carried.{CarriedWords, Obeys}
@@ -50,14 +48,10 @@ locatedIn k i n ws =
 abbrev pub locatedOf : Kind → Id → ℕ → Lent → Located
 locatedOf k i n words = locatedIn k i n (now words)
 
--- demand 2's sentence of a number within its limit, for a known device
-unfoldable pub NumberRefusedExactly : Kind → Id → ℕ → Limits → HostMasks → Devices → Answer → Type 0
-NumberRefusedExactly k i n l h vs r =
-    slotOf i vs < slots → n ≤ limitOf k l → (answered r ≡ 0 → ⊥) ↔ Clash k n (slotOf i vs) h vs
-
 -- assigning a number, on the words ws, which are left as vs
 pub record AssigningNumber (k : Kind) (i : Id) (n : ℕ) (ws vs : List ℕ) (r : Answer) : Type 0 where
   pub rule : CarriedWords (assignNumber k i n) (assignedTo k i n) ws vs r
+  -- demand 2's sentence
   pub exactly : NumberRefusedExactly k i n (limitsIn ws) (hostIn ws) (deviceIn ws) r
 
 -- the same of lent memory at entry and at exit

@@ -1,6 +1,6 @@
 // Assigning adapters, domains and control domains to a device by number, and taking them away.
 //
-// Rests on errno, mask, numeral, rules, product, layout, record, store, lookup and admit.
+// Rests on errno, mask, rules, product, layout, record, store, lookup and admit.
 use errno::Errno;
 use layout::SLOTS;
 use layout::Words;
@@ -21,7 +21,7 @@ enum Located {
 }
 
 // Assigns a number.
-pub fn assign(words: &mut Words, kind: Kind, id: Id, number: u16) -> Answer
+pub fn assign(words: &mut Words, kind: Kind, id: Id, number: u64) -> Answer
     ensures { λ r. ⌜ AssignsNumber kind id number (words .entry) (words .exit) r ⌝ }
 {
     match locate(words, kind, id, number) {
@@ -31,7 +31,7 @@ pub fn assign(words: &mut Words, kind: Kind, id: Id, number: u16) -> Answer
 }
 
 // Takes away a number.
-pub fn unassign(words: &mut Words, kind: Kind, id: Id, number: u16) -> Answer
+pub fn unassign(words: &mut Words, kind: Kind, id: Id, number: u64) -> Answer
     ensures { λ r. ⌜ UnassignsNumber kind id number (words .entry) (words .exit) r ⌝ }
 {
     match locate(words, kind, id, number) {
@@ -41,7 +41,7 @@ pub fn unassign(words: &mut Words, kind: Kind, id: Id, number: u16) -> Answer
 }
 
 // Where a number goes, for the device with an id.
-fn locate(words: &Words, kind: Kind, id: Id, number: u16) -> Located
+fn locate(words: &Words, kind: Kind, id: Id, number: u64) -> Located
     ensures { λ r. ⌜ r ≡ locatedOf kind id number (words .entry) ⌝ }
 {
     let slot = lookup::find(words, id);

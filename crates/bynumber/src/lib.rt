@@ -5,7 +5,7 @@ use fields::ID_BYTES;
 use layout::Drivers;
 use layout::Words;
 use rules::Kind;
-ghost use Rattle.served.specs.Served.{idIn, AssignsNumber, UnassignsNumber};
+ghost use Rattle.served.specs.Served.{idIn, NumberAssigns, NumberUnassigns};
 
 pub fn assign(
     words: &mut Words,
@@ -14,14 +14,9 @@ pub fn assign(
     id: &[u8; ID_BYTES],
     number: u64,
 ) -> u8
-    ensures { λ r. ⌜ AssignsNumber kind (idIn (id .entry)) number words drivers r ⌝ }
+    ensures { λ r. ⌜ NumberAssigns kind (idIn (id .entry)) number words drivers r ⌝ }
 {
-    rules::answer_number(assignnumber::assign(
-        words,
-        kind,
-        fields::id_of(id),
-        served::taken(number),
-    ))
+    rules::answer_number(assignnumber::assign(words, kind, fields::id_of(id), number))
 }
 
 pub fn unassign(
@@ -31,12 +26,7 @@ pub fn unassign(
     id: &[u8; ID_BYTES],
     number: u64,
 ) -> u8
-    ensures { λ r. ⌜ UnassignsNumber kind (idIn (id .entry)) number words drivers r ⌝ }
+    ensures { λ r. ⌜ NumberUnassigns kind (idIn (id .entry)) number words drivers r ⌝ }
 {
-    rules::answer_number(assignnumber::unassign(
-        words,
-        kind,
-        fields::id_of(id),
-        served::taken(number),
-    ))
+    rules::answer_number(assignnumber::unassign(words, kind, fields::id_of(id), number))
 }

@@ -5,7 +5,7 @@ use fields::ID_BYTES;
 use layout::Drivers;
 use layout::Words;
 use rules::Kind;
-ghost use Rattle.served.specs.Served.{idIn, Assigns, Unassigns};
+ghost use Rattle.served.specs.Served.{idIn, AssignServes, UnassignServes};
 
 pub fn assign(
     words: &mut Words,
@@ -14,7 +14,7 @@ pub fn assign(
     id: &[u8; ID_BYTES],
     text: &[u8],
 ) -> u8
-    ensures { λ r. ⌜ Assigns kind (idIn (id .entry)) (text .entry) words drivers r ⌝ }
+    ensures { λ r. ⌜ AssignServes kind (idIn (id .entry)) (text .entry) words drivers r ⌝ }
 {
     rules::answer_number(assign::assign(words, kind, fields::id_of(id), text))
 }
@@ -26,7 +26,7 @@ pub fn unassign(
     id: &[u8; ID_BYTES],
     text: &[u8],
 ) -> u8
-    ensures { λ r. ⌜ Unassigns kind (idIn (id .entry)) (text .entry) words drivers r ⌝ }
+    ensures { λ r. ⌜ UnassignServes kind (idIn (id .entry)) (text .entry) words drivers r ⌝ }
 {
     rules::answer_number(assign::unassign(words, kind, fields::id_of(id), text))
 }

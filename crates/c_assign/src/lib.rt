@@ -6,7 +6,7 @@ use layout::Drivers;
 use layout::Words;
 use rules::Kind;
 ghost use Rattle.rules.specs.declared.Kind.the-variants.{Adapter, Domain, Control};
-ghost use Rattle.served.specs.Served.{idIn, Assigns, Unassigns};
+ghost use Rattle.served.specs.Served.{idIn, AssignServes, UnassignServes};
 
 #[no_mangle]
 pub extern "C" fn zk_raw_assign_adapter(
@@ -15,7 +15,7 @@ pub extern "C" fn zk_raw_assign_adapter(
     id: &[u8; ID_BYTES],
     text: &[u8],
 ) -> u8
-    ensures { λ r. ⌜ Assigns Adapter (idIn (id .entry)) (text .entry) words drivers r ⌝ }
+    ensures { λ r. ⌜ AssignServes Adapter (idIn (id .entry)) (text .entry) words drivers r ⌝ }
 {
     bytext::assign(words, drivers, Kind::Adapter, id, text)
 }
@@ -27,7 +27,7 @@ pub extern "C" fn zk_raw_assign_domain(
     id: &[u8; ID_BYTES],
     text: &[u8],
 ) -> u8
-    ensures { λ r. ⌜ Assigns Domain (idIn (id .entry)) (text .entry) words drivers r ⌝ }
+    ensures { λ r. ⌜ AssignServes Domain (idIn (id .entry)) (text .entry) words drivers r ⌝ }
 {
     bytext::assign(words, drivers, Kind::Domain, id, text)
 }
@@ -39,7 +39,7 @@ pub extern "C" fn zk_raw_assign_control_domain(
     id: &[u8; ID_BYTES],
     text: &[u8],
 ) -> u8
-    ensures { λ r. ⌜ Assigns Control (idIn (id .entry)) (text .entry) words drivers r ⌝ }
+    ensures { λ r. ⌜ AssignServes Control (idIn (id .entry)) (text .entry) words drivers r ⌝ }
 {
     bytext::assign(words, drivers, Kind::Control, id, text)
 }
@@ -51,7 +51,7 @@ pub extern "C" fn zk_raw_unassign_adapter(
     id: &[u8; ID_BYTES],
     text: &[u8],
 ) -> u8
-    ensures { λ r. ⌜ Unassigns Adapter (idIn (id .entry)) (text .entry) words drivers r ⌝ }
+    ensures { λ r. ⌜ UnassignServes Adapter (idIn (id .entry)) (text .entry) words drivers r ⌝ }
 {
     bytext::unassign(words, drivers, Kind::Adapter, id, text)
 }
@@ -63,7 +63,7 @@ pub extern "C" fn zk_raw_unassign_domain(
     id: &[u8; ID_BYTES],
     text: &[u8],
 ) -> u8
-    ensures { λ r. ⌜ Unassigns Domain (idIn (id .entry)) (text .entry) words drivers r ⌝ }
+    ensures { λ r. ⌜ UnassignServes Domain (idIn (id .entry)) (text .entry) words drivers r ⌝ }
 {
     bytext::unassign(words, drivers, Kind::Domain, id, text)
 }
@@ -75,7 +75,7 @@ pub extern "C" fn zk_raw_unassign_control_domain(
     id: &[u8; ID_BYTES],
     text: &[u8],
 ) -> u8
-    ensures { λ r. ⌜ Unassigns Control (idIn (id .entry)) (text .entry) words drivers r ⌝ }
+    ensures { λ r. ⌜ UnassignServes Control (idIn (id .entry)) (text .entry) words drivers r ⌝ }
 {
     bytext::unassign(words, drivers, Kind::Control, id, text)
 }

@@ -5,7 +5,7 @@ use fields::ID_BYTES;
 use layout::Drivers;
 use layout::Words;
 ghost use Rattle.model.specs.Steps.{create, remove, openIt, closeIt};
-ghost use Rattle.served.specs.Served.{idIn, Freshens, Serves};
+ghost use Rattle.served.specs.Served.{idIn, FreshServes, Serves};
 
 // Makes the lent memory a fresh record.
 #[no_mangle]
@@ -15,7 +15,7 @@ pub extern "C" fn zk_raw_fresh(
     adapter: u64,
     domain: u64,
 ) -> u8
-    ensures { λ r. ⌜ Freshens adapter domain words drivers r ⌝ }
+    ensures { λ r. ⌜ FreshServes adapter domain words drivers r ⌝ }
 {
     rules::answer_number(setup::fresh(words, drivers, adapter, domain))
 }

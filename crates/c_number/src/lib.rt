@@ -6,7 +6,7 @@ use layout::Drivers;
 use layout::Words;
 use rules::Kind;
 ghost use Rattle.rules.specs.declared.Kind.the-variants.{Adapter, Domain, Control};
-ghost use Rattle.served.specs.Served.{idIn, AssignsNumber, UnassignsNumber};
+ghost use Rattle.served.specs.Served.{idIn, NumberAssigns, NumberUnassigns};
 
 #[no_mangle]
 pub extern "C" fn zk_raw_assign_adapter_number(
@@ -15,7 +15,7 @@ pub extern "C" fn zk_raw_assign_adapter_number(
     id: &[u8; ID_BYTES],
     number: u64,
 ) -> u8
-    ensures { λ r. ⌜ AssignsNumber Adapter (idIn (id .entry)) number words drivers r ⌝ }
+    ensures { λ r. ⌜ NumberAssigns Adapter (idIn (id .entry)) number words drivers r ⌝ }
 {
     bynumber::assign(words, drivers, Kind::Adapter, id, number)
 }
@@ -27,7 +27,7 @@ pub extern "C" fn zk_raw_assign_domain_number(
     id: &[u8; ID_BYTES],
     number: u64,
 ) -> u8
-    ensures { λ r. ⌜ AssignsNumber Domain (idIn (id .entry)) number words drivers r ⌝ }
+    ensures { λ r. ⌜ NumberAssigns Domain (idIn (id .entry)) number words drivers r ⌝ }
 {
     bynumber::assign(words, drivers, Kind::Domain, id, number)
 }
@@ -39,7 +39,7 @@ pub extern "C" fn zk_raw_assign_control_domain_number(
     id: &[u8; ID_BYTES],
     number: u64,
 ) -> u8
-    ensures { λ r. ⌜ AssignsNumber Control (idIn (id .entry)) number words drivers r ⌝ }
+    ensures { λ r. ⌜ NumberAssigns Control (idIn (id .entry)) number words drivers r ⌝ }
 {
     bynumber::assign(words, drivers, Kind::Control, id, number)
 }
@@ -51,7 +51,7 @@ pub extern "C" fn zk_raw_unassign_adapter_number(
     id: &[u8; ID_BYTES],
     number: u64,
 ) -> u8
-    ensures { λ r. ⌜ UnassignsNumber Adapter (idIn (id .entry)) number words drivers r ⌝ }
+    ensures { λ r. ⌜ NumberUnassigns Adapter (idIn (id .entry)) number words drivers r ⌝ }
 {
     bynumber::unassign(words, drivers, Kind::Adapter, id, number)
 }
@@ -63,7 +63,7 @@ pub extern "C" fn zk_raw_unassign_domain_number(
     id: &[u8; ID_BYTES],
     number: u64,
 ) -> u8
-    ensures { λ r. ⌜ UnassignsNumber Domain (idIn (id .entry)) number words drivers r ⌝ }
+    ensures { λ r. ⌜ NumberUnassigns Domain (idIn (id .entry)) number words drivers r ⌝ }
 {
     bynumber::unassign(words, drivers, Kind::Domain, id, number)
 }
@@ -75,7 +75,7 @@ pub extern "C" fn zk_raw_unassign_control_domain_number(
     id: &[u8; ID_BYTES],
     number: u64,
 ) -> u8
-    ensures { λ r. ⌜ UnassignsNumber Control (idIn (id .entry)) number words drivers r ⌝ }
+    ensures { λ r. ⌜ NumberUnassigns Control (idIn (id .entry)) number words drivers r ⌝ }
 {
     bynumber::unassign(words, drivers, Kind::Control, id, number)
 }

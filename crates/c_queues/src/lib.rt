@@ -14,12 +14,12 @@ ghost use Rattle.due.specs.Due.{Remains};
 ghost use Rattle.guest.specs.Masks.{usableWith};
 ghost use Rattle.drivernumbers.specs.Numbers.{driverNumber};
 ghost use Rattle.shown.specs.Shown.{bit};
-ghost use Rattle.served.specs.Served.{idIn, queueWith, Moves, Sweeps};
+ghost use Rattle.served.specs.Served.{idIn, queueWith, MoveServes, SweepServes};
 
 // 0 idle, 1 released, 2 bound to host, 3 bound to passthrough.
 #[no_mangle]
 pub extern "C" fn zk_raw_move(words: &Words, drivers: &mut Drivers, apid: u8, apqi: u8) -> u8
-    ensures { λ r. ⌜ Moves apid apqi (words .entry) drivers r ⌝ }
+    ensures { λ r. ⌜ MoveServes apid apqi (words .entry) drivers r ⌝ }
 {
     request::make_move(words, drivers, Apid(apid), Apqi(apqi))
 }
@@ -32,7 +32,7 @@ pub extern "C" fn zk_raw_sweep(
     budget: u32,
     more: &mut u8,
 ) -> u32
-    ensures { λ r. ⌜ Sweeps budget (words .entry) drivers (more .exit) r ⌝ }
+    ensures { λ r. ⌜ SweepServes budget (words .entry) drivers (more .exit) r ⌝ }
 {
     shown::sweep(words, drivers, budget, more)
 }

@@ -7,7 +7,6 @@ use lib.Dec.{eqb}
 use Rattle.errno.specs.declared.Errno.{Errno}
 use Rattle.errno.specs.declared.Errno.the-variants.{Enoent, Ebusy, Eexist, Enodev, Einval, Enospc, Eaddrinuse, Eaddrnotavail}
 use Rattle.errno.specs.Errno.{numberOf}
-use Rattle.names.specs.Names.{Nameless}
 
 -- the case with a number
 caseWith : ℕ → Errno
@@ -38,7 +37,7 @@ one-case e f p q = sym (own-case e) ∙ ap caseWith (sym p ∙ q) ∙ own-case f
 
 -- no case has a number that is none of the eight
 pub nameless : (n : ℕ) → (n ≡ 2 → ⊥) → (n ≡ 16 → ⊥) → (n ≡ 17 → ⊥) → (n ≡ 19 → ⊥) → (n ≡ 22 → ⊥) → (n ≡ 28 → ⊥) → (n ≡ 98 → ⊥)
-    → (n ≡ 99 → ⊥) → Nameless n
+    → (n ≡ 99 → ⊥) → (e : Errno) → n ≡ numberOf e → ⊥
 unfolding numberOf
 nameless n a b c d e f g h Enoent = a
 nameless n a b c d e f g h Ebusy = b

@@ -9,13 +9,13 @@ use denote.Ref.{RefT, now}
 use Rattle.errno.specs.declared.Errno.{Errno}
 use Rattle.errno.specs.Errno.{numberOf, nameOf, padded}
 
--- no case has the value
-abbrev pub Nameless : ℕ → Type 0
-Nameless value = (e : Errno) → value ≡ numberOf e → ⊥
+-- r is what has the value, where anything has it
+abbrev pub CaseBy : {A : Type 0} → (A → ℕ) → ℕ → A → Type 0
+CaseBy {A} numberOf value r = (e : A) → value ≡ numberOf e → r ≡ e
 
--- the case that has the value, where one has it
+-- the case that has an errno value
 abbrev pub CaseOf : ℕ → Errno → Type 0
-CaseOf value r = (e : Errno) → value ≡ numberOf e → r ≡ e
+CaseOf value r = CaseBy numberOf value r
 
 -- the name of what has the value, as names go by `nameOf` and values by `numberOf`: r is its length; where nothing has the value r
 -- is 0, and the buffer holds what it held

@@ -20,8 +20,8 @@ use Rattle.rules.specs.declared.Kind.{Kind}
 use Rattle.rules.specs.declared.Kind.the-variants.{Adapter, Domain, Control}
 use Rattle.rules.specs.State.{Device, Devices, State, slots, queues, inProduct}
 use Rattle.rules.specs.Queues.{reserved}
-use Rattle.rules.specs.Commands.{answered, errnoOf, slotOf, product, assignedElsewhere, reading, onDevice, numbersOf, withNumbers, limitOf, single, paired, adds, adding, assignAt, assign, withDevice, sameId, firstFrom}
-use Rattle.rules.specs.Refusals.{Clash, RefusedExactly}
+use Rattle.rules.specs.Commands.{answered, errnoOf, slotOf, product, assignedElsewhere, reading, onDevice, numbersOf, withNumbers, limitOf, single, paired, adds, adding, assignAt, assignNumber, assign, withDevice, sameId, firstFrom}
+use Rattle.rules.specs.Refusals.{Clash, NumberRefusedExactly, RefusedExactly}
 use Rattle.rules.proofs.First.{first-holds}
 use Rattle.rules.proofs.Products.{both-left, both-right, in-both}
 
@@ -122,11 +122,17 @@ module _ (k : Kind) (n p : ℕ) (s : State) (e : s .device p .present ≡ true) 
   at-slot false h =
       clashes h (someBelow queues (both new (reserved (s .host)))) (someBelow queues (both new (assignedElsewhere p (s .device)))) refl refl
 
--- an assignment to a known device, in range
+-- an assignment of a number to a known device, in range
+pub number-refused-exactly : (k : Kind) (i : Id) (n : ℕ) (s : State) (r : Answer) → answered r ≡ errnoOf (assignNumber k i n s)
+    → NumberRefusedExactly k i n (s .limits) (s .host) (s .device) r
+unfolding NumberRefusedExactly onDevice assignAt new added
+number-refused-exactly k i n s r e h l =
+    let p = slotOf i (s .device) in
+    rw (e, lt-ltb p slots h, le-leb n (limitOf k (s .limits)) l)
+    (at-slot k n p s (slot-present i (s .device) h) (numbersOf k (s .device p) n) refl)
+
+-- the same by text
 pub refused-exactly : (k : Kind) (i : Id) (text : List ℕ) (s : State) (r : Answer) → answered r ≡ errnoOf (assign k i text s)
     → RefusedExactly k i text (s .limits) (s .host) (s .device) r
-unfolding RefusedExactly assign reading onDevice assignAt new added
-refused-exactly k i text s r e n t h l =
-    let p = slotOf i (s .device) in
-    rw (e, t, lt-ltb p slots h, le-leb n (limitOf k (s .limits)) l)
-    (at-slot k n p s (slot-present i (s .device) h) (numbersOf k (s .device p) n) refl)
+unfolding RefusedExactly assign reading
+refused-exactly k i text s r e n t = number-refused-exactly k i n s r (rw t at e)

@@ -19,8 +19,11 @@ unfoldable pub Clash : Kind → ℕ → ℕ → HostMasks → Devices → Type 0
 Clash k n p h vs =
     (q : ℕ) × (q < queues) × (adds k n (vs p) q ≡ true) × ((reserved h q ≡ true) ⊎ (assignedElsewhere p vs q ≡ true))
 
--- a number of good text, within its limit, for a known device: the answer is a refusal exactly when there is such a queue
+-- a number within its limit, for a known device: the answer is a refusal exactly when there is such a queue
+unfoldable pub NumberRefusedExactly : Kind → Id → ℕ → Limits → HostMasks → Devices → Answer → Type 0
+NumberRefusedExactly k i n l h vs r =
+    slotOf i vs < slots → n ≤ limitOf k l → (answered r ≡ 0 → ⊥) ↔ Clash k n (slotOf i vs) h vs
+
+-- the same of a good text's number
 unfoldable pub RefusedExactly : Kind → Id → List ℕ → Limits → HostMasks → Devices → Answer → Type 0
-RefusedExactly k i text l h vs r =
-    (n : ℕ) → numberText text ≡ granted n → slotOf i vs < slots → n ≤ limitOf k l
-    → (answered r ≡ 0 → ⊥) ↔ Clash k n (slotOf i vs) h vs
+RefusedExactly k i text l h vs r = (n : ℕ) → numberText text ≡ granted n → NumberRefusedExactly k i n l h vs r

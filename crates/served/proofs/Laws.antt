@@ -1,6 +1,6 @@
 -- From what a function of the service promises to what a caller in C is promised.
 -- Assumes nothing.
-use Prim.Native.Nat.{ℕ, _≤_}
+use Prim.Native.Nat.{ℕ}
 use mathlib.Core.List.{List, [], _∷_}
 use mathlib.Core.Path.{_≡_, refl, sym, ap, subst, _∙_}
 use Rattle.rules.specs.declared.Answer.{Answer}
@@ -10,7 +10,6 @@ use Rattle.rules.specs.declared.Kind.{Kind}
 use Rattle.rules.specs.Commands as Commands
 use Rattle.rules.specs.Commands.{answered, unassignNumber}
 use Rattle.layout.specs.Carried.{Memory, memory, Carried, CarriedWords}
-use Rattle.numeral.specs.Numeral.{numeral}
 use Rattle.assignnumber.specs.Numbers.{AssigningNumber, unassignedFrom}
 use Rattle.assign.specs.Numbers.{unassigned, Assigning}
 use Rattle.assign.proofs.Laws.{assigned-as-text, unassigned-as-text}
@@ -78,17 +77,15 @@ module _ {a : Answer} {r : ℕ} (f : r ≡ answered a) where
         unfolding rule effect
         unassigned-as c = as-command (ap (λ (x : Id). unassign k x text) (sym e)) (c qs) (unassigns k i text a (record { words = c; drivers = refl }))
 
-      -- by number: x was read, and y is what was given
-      module _ {x y : ℕ} (g : x ≡ y) (small : x ≤ 65535) where
-        pub number-assigned : AssigningNumber k i x ws vs a → NumberAssigned k j y (memory ws qs) (memory vs qs) r
+      -- by number
+      module _ {x : ℕ} where
+        pub number-assigned : AssigningNumber k i x ws vs a → NumberAssigned k j x (memory ws qs) (memory vs qs) r
         number-assigned c =
-            subst (λ (z : ℕ). NumberAssigned k j z (memory ws qs) (memory vs qs) r) g
-            (record { rule = record { outcome = a; kept = rw e at c; numbered = f }; step = assigned-step (assigned-as-text k i x small ws c) })
+            record { rule = record { outcome = a; kept = rw e at c; numbered = f }; step = assigned-step (assigned-as-text k i ws x c) }
 
-        pub number-unassigned : CarriedWords (unassignNumber k i x) (unassignedFrom k i x) ws vs a → NumberUnassigned k j y (memory ws qs) (memory vs qs) r
+        pub number-unassigned : CarriedWords (unassignNumber k i x) (unassignedFrom k i x) ws vs a → NumberUnassigned k j x (memory ws qs) (memory vs qs) r
         number-unassigned c =
-            subst (λ (z : ℕ). NumberUnassigned k j z (memory ws qs) (memory vs qs) r) g
-            (record { rule = record { outcome = a; kept = rw e at c; numbered = f }; step = unassigned-as (unassigned-as-text k i x small ws c) })
+            record { rule = record { outcome = a; kept = rw e at c; numbered = f }; step = unassigned-as (unassigned-as-text k i ws x c) }
 
   module _ {ws vs qs : List ℕ} where
     pub apmask-as : {text : List ℕ} → CarriedWords (Commands.setApmask text) (withApmask text) ws vs a → Stepped (command (setApmask text)) (memory ws qs) (memory vs qs) r

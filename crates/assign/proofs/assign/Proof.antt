@@ -14,7 +14,7 @@ unfolding outcome
 returns c =
     let a = c .before .before .before .before .before .before .before .args in
     let n = c .before .before .before .n .given in
-    assigned-by (a .kind) (a .id) (now (a .text)) (a .words .now) (n .0 .0) (sym (c .before .before .before .before .before .parse .ensures) ∙ ap outcome (n .1)) (c .assign .ensures)
+    assigned-by (a .kind) (a .id) (now (a .text)) (a .words .now) (n .0 .0) (sym (c .before .before .before .before .before .parse .ensures) ∙ ap outcome (n .1)) (c .assign .ensures .rule)
 
 returns-2 : tie.Need-returns-2
 unfolding outcome
@@ -23,4 +23,4 @@ returns-2 c =
     not-assigned (a .kind) (a .id) (now (a .text)) (a .words .now) Einval (sym (c .before .before .parse .ensures) ∙ ap outcome (c .enum-told .given .1))
 
 pub assign-spec : {M : Type 1} → statement M
-assign-spec = tie.close (tie.spec (λ c κs. search needs) (λ c. search needs) (λ c κs. search needs) (λ c. search needs) returns returns-2)
+assign-spec = tie.close (tie.spec (λ c κs. search needs) (λ c. search needs) (λ c. search needs) (λ c κs. search needs) (λ c. search needs) returns returns-2)

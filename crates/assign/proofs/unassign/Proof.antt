@@ -23,4 +23,4 @@ returns-2 c =
     not-unassigned (a .kind) (a .id) (now (a .text)) (a .words .now) Einval (sym (c .before .before .parse .ensures) ∙ ap outcome (c .enum-told .given .1))
 
 pub unassign-spec : {M : Type 1} → statement M
-unassign-spec = tie.close (tie.spec (λ c κs. search needs) (λ c. search needs) (λ c κs. search needs) (λ c. search needs) returns returns-2)
+unassign-spec = tie.close (tie.spec (λ c κs. search needs) (λ c. search needs) (λ c. search needs) (λ c κs. search needs) (λ c. search needs) returns returns-2)

@@ -1,6 +1,5 @@
 -- `assign` meets its contract: the rule where the number goes.
 -- Assumes nothing.
-use native.Mathlib.Omega.{arith}
 use mathlib.Core.Path.{sym, _∙_}
 use borrow.Author.Needs.{needs}
 use Rattle.rules.specs.Commands.{assignAt}
@@ -16,21 +15,19 @@ assign-at-requires c κs =
 
 returns : tie.Need-returns
 returns c =
-    let s = c .before .before .before .before .before .before .before in
-    let a = s .args in
+    let a = c .before .before .before .before .before .before .before .args in
     let done =
     at-located (a .kind) (a .id) (a .number) (a .words .now) (assignAt (a .kind)) (assignedAt (a .kind))
     (sym (c .before .before .before .slot .given .1) ∙ c .before .before .before .before .before .locate .ensures) (c .assign-at .ensures) in
-    record { rule = done; exactly = exact (a .kind) (a .id) (a .number) (a .words .now) (omega (arith, s)) done }
+    record { rule = done; exactly = exact (a .kind) (a .id) (a .number) (a .words .now) done }
 
 returns-2 : tie.Need-returns-2
 returns-2 c =
-    let s = c .before .before .before .before .before in
-    let a = s .args in
+    let a = c .before .before .before .before .before .args in
     let done =
     not-located (a .kind) (a .id) (a .number) (a .words .now) (assignAt (a .kind)) (assignedTo (a .kind) (a .id) (a .number))
     (sym (c .before .e .given .1) ∙ c .before .before .before .locate .ensures) in
-    record { rule = done; exactly = exact (a .kind) (a .id) (a .number) (a .words .now) (omega (arith, s)) done }
+    record { rule = done; exactly = exact (a .kind) (a .id) (a .number) (a .words .now) done }
 
 pub assign-spec : {M : Type 1} → statement M
 assign-spec =
