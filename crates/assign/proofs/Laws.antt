@@ -11,7 +11,6 @@ use Rattle.errno.specs.Outcome.{Outcome, granted, refused}
 use Rattle.errno.specs.declared.Errno.{Errno}
 use Rattle.errno.specs.declared.Errno.the-variants.{Enoent, Enodev}
 use Rattle.number.specs.Text.{numberText}
-use Rattle.numeral.specs.Numeral.{textOf}
 use Rattle.numeral.proofs.Laws.{says}
 use Rattle.rules.specs.declared.Answer.{Answer}
 use Rattle.rules.specs.declared.Answer.the-variants.{Refused}
@@ -25,7 +24,7 @@ use Rattle.layout.specs.Layout.{limitsIn, deviceIn, stateIn}
 use Rattle.layout.proofs.Laws.{refused-carried, carried-as}
 use Rattle.admit.proofs.Laws.{limit-small}
 use Rattle.assignnumber.specs.Numbers.{assignedTo, unassignedFrom, AssigningNumber}
-use Rattle.assign.specs.Numbers.{value, assigned, unassigned, Assigning}
+use Rattle.assign.specs.Numbers.{value, assigned, unassigned, textOf, Assigning}
 
 module _ (k : Kind) (i : Id) (text ws : List ℕ) where
   -- with demand 2's sentence

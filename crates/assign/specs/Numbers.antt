@@ -1,11 +1,12 @@
 -- What assigning and unassigning write: one mask of one device.
 -- The rules: RULES.md, "Commands".
 -- Assumes nothing.
-use Prim.Native.Nat.{ℕ}
+use Prim.Native.Nat.{ℕ, min}
 use mathlib.Core.List.{List}
 use denote.Ref.{now}
 use Rattle.errno.specs.Outcome.{Outcome, granted, refused}
 use Rattle.number.specs.Text.{numberText}
+use Rattle.numeral.specs.Numeral.{numeral}
 use Rattle.rules.specs.declared.Id.{Id}
 use Rattle.rules.specs.declared.Kind.{Kind}
 use Rattle.rules.specs.declared.Answer.{Answer}
@@ -27,6 +28,10 @@ assigned k i text ws = assignedAt k (slotOf i (deviceIn ws)) (value (numberText 
 
 abbrev pub unassigned : Kind → Id → List ℕ → List ℕ → List ℕ
 unassigned k i text ws = unassignedAt k (slotOf i (deviceIn ws)) (value (numberText text)) ws
+
+-- the text that stands for any number: one above 65535 is above every limit, as 65535 is
+unfoldable pub textOf : ℕ → List ℕ
+textOf n = numeral (min n 65535)
 
 -- assigning the number of a text, on the words ws, which are left as vs
 pub record Assigning (k : Kind) (i : Id) (text ws vs : List ℕ) (r : Answer) : Type 0 where

@@ -1,7 +1,7 @@
 -- A text for each number up to 65535.
 -- The rules: RULES.md, "Text".
 -- Assumes nothing.
-use Prim.Native.Nat.{ℕ, _/_, _%_, _≤_, min}
+use Prim.Native.Nat.{ℕ, _/_, _%_, _≤_}
 use mathlib.Core.List.{List, [], _∷_}
 use mathlib.Core.Path.{_≡_}
 use Rattle.errno.specs.Outcome.{granted}
@@ -11,10 +11,6 @@ use Rattle.number.specs.Text.{numberText}
 -- 0x and four hex digits
 unfoldable pub numeral : ℕ → List ℕ
 numeral n = 48 ∷ 120 ∷ hexDigit (n / 4096 % 16) ∷ hexDigit (n / 256 % 16) ∷ hexDigit (n / 16 % 16) ∷ hexDigit (n % 16) ∷ []
-
--- the text that stands for any number: one above 65535 is above every limit, as 65535 is
-unfoldable pub textOf : ℕ → List ℕ
-textOf n = numeral (min n 65535)
 
 -- a numeral is good text, and says the number
 abbrev pub Says : Type 0

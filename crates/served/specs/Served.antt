@@ -15,8 +15,8 @@ use Rattle.fields.specs.Fields.{idOf}
 use Rattle.layout.specs.Layout.{limitsIn, hostIn, deviceIn}
 use Rattle.layout.specs.Lent.{Lent}
 use Rattle.layout.specs.Carried.{Memory, memory, read, CarriedWords}
-use Rattle.numeral.specs.Numeral.{textOf}
 use Rattle.assignnumber.specs.Numbers.{AssigningNumber, unassignedFrom}
+use Rattle.assign.specs.Numbers.{textOf}
 use Rattle.sweep.specs.Sweeps.{Sweeping}
 use Rattle.model.specs.Steps.{Command, assign, unassign}
 use Rattle.model.specs.Sweeps.{sweepSteps}
