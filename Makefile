@@ -53,7 +53,7 @@ DESTDIR =
 VERSION = $(shell sed -n 's/^.define ZK_VERSION_STRING "\(.*\)"/\1/p' include/zokormendu.h)
 
 install: library
-	@case "$(LIBDIR)" in /*) ;; *) echo "PREFIX must be an absolute path"; exit 1 ;; esac
+	@for path in "$(PREFIX)" "$(LIBDIR)"; do case "$$path" in /*) ;; *) echo "no absolute path: $$path"; exit 1 ;; esac; done
 	install -d "$(DESTDIR)$(PREFIX)/include" "$(DESTDIR)$(LIBDIR)/pkgconfig"
 	install -m 644 include/zokormendu.h "$(DESTDIR)$(PREFIX)/include/zokormendu.h"
 	install -m 644 $(LIB) "$(DESTDIR)$(LIBDIR)/libzokormendu.a"
@@ -67,7 +67,7 @@ COPY = $(CURDIR)/target/example-c/installed
 USE = PKG_CONFIG_PATH="$(COPY)/lib/pkgconfig" pkg-config
 
 example: library
-	@$(MAKE) --no-print-directory install PREFIX="$(COPY)" DESTDIR=
+	@$(MAKE) --no-print-directory install PREFIX="$(COPY)" LIBDIR="$(COPY)/lib" DESTDIR=
 	c++ -std=c++11 -Wall -Wextra -pedantic -Werror -fsyntax-only -x c++ "$(COPY)/include/zokormendu.h"
 	eval "cc $(CFLAGS) -c $$($(USE) --cflags zokormendu) -o target/example-c/guests.o example-c/guests.c"
 	eval "cc -o target/example-c/guests target/example-c/guests.o $$($(USE) --libs zokormendu)"

@@ -9,9 +9,10 @@
  *    that is cleared in one of them frees all queues of that adapter or domain, whatever the other has.
  *  - The driver that a queue should have, its target: unbound where its adapter or its usage domain is not configured; else
  *    the host's where it is reserved; else passthrough where the adapter's hardware type is 10 or higher; else unbound.
- *  - Drivers change by moves alone, a queue at a time, but for queues that a new configuration lacks: these are unbound
- *    at once. So each change of apmask, aqmask or the configuration is followed by a sweep. Until then drivers, and with
- *    them what guests get, are the old ones: a guest can lack a queue that it should get, and keep one that it should lose.
+ *  - Drivers change by moves alone, a queue at a time, but for queues that a new configuration takes away: these are
+ *    unbound at once. So each change of apmask, aqmask or the configuration is followed by a sweep. Until then drivers are
+ *    the old ones, while what is assigned and configured counts at once: a guest can keep a queue that it should lose, and
+ *    it can lose a whole adapter that it had, where a domain came whose queue is not bound yet.
  *  - A device's matrix is each of its adapters with each of its domains. A number is refused if it would add a queue that
  *    is reserved, or one that another device has, open or not, configured or not; a new apmask or aqmask if a queue that
  *    is then reserved is in some device's matrix. Control domains may be shared.
@@ -19,7 +20,7 @@
  *    configured those whose queues with all of these domains are bound to passthrough. ONE QUEUE THAT IS NOT DROPS THE
  *    WHOLE ADAPTER. Control domains count where they are assigned as such and configured as such.
  *  - A guest can use a queue while its device is open and its guest_matrix has the queue. Assigning, unassigning, masks
- *    and configurations are allowed while guests run, and count at once.
+ *    and configurations are allowed while guests run.
  *
  * FROM BOOT TO A GUEST AND ITS END
  *     zk_fresh                                     a record, with every queue reserved for the host; the limits are the
@@ -40,8 +41,8 @@
  *    other, and a copy of a record is a record too. What its words mean can change with ZK_VERSION, and they are numbers
  *    of this machine: look at a record by the functions below, and do not send it elsewhere.
  *  - No pointer may be null, also where its length is 0. No two pointers of one call may lead to the same bytes.
- *  - Any contents of a record are read by the same rules, and none makes a call fault. Of two devices with one id, or with
- *    one queue, which no calls lead to, the one in the lower slot is meant.
+ *  - Any contents of a record are read by the same rules, and none makes a call fault. Of two devices with one id, which
+ *    no calls lead to, the one in the lower slot is meant.
  *
  * THREADS. There are no locks. Calls that take a const record only read it, and can run side by side on one record while
  * no other call runs on it; any other call must be alone on its record. Calls on different records can run side by side.
@@ -108,13 +109,16 @@ extern "C" {
 #define ZK_BOUND_HOST 2
 #define ZK_BOUND_PASSTHROUGH 3
 
-/* A queue. Its numbers go by name, so that no call can exchange them. */
+/*
+ * A queue. Name its numbers, {.apid = 5, .apqi = 4}, so that they cannot be exchanged; without names the adapter is first.
+ * C cuts a larger number off to a byte without a word, unless it is asked to warn (-Wconversion).
+ */
 struct zk_apqn {
     uint8_t apid;
     uint8_t apqi;
 };
 
-/* The highest adapter and domain numbers, each at most 255. */
+/* The highest adapter and domain numbers, each at most 255. Name them too. */
 struct zk_limits {
     uint64_t adapter;
     uint64_t domain;
@@ -134,8 +138,8 @@ _Static_assert(sizeof(struct zk_record) == ZK_RECORD_BYTES, "the size of a recor
 
 /*
  * What the archive exports, for callers that cannot use the inline functions below: the same calls, with the record as its
- * two arrays (apart from each other, the words aligned as uint64_t), a queue as its two numbers, text as bytes, and an
- * answer as the byte that it fits into.
+ * two arrays (apart from each other, the words aligned as uint64_t), a queue and limits as two numbers, text as bytes, and
+ * an answer as the byte that it fits into. Those of names answer a length, and 0 where they write nothing.
  */
 uint8_t zk_raw_fresh(uint64_t *words, uint8_t *drivers, uint64_t highest_adapter, uint64_t highest_domain);
 uint8_t zk_raw_create(uint64_t *words, uint8_t *drivers, const uint8_t *id);
@@ -277,7 +281,10 @@ static inline int zk_target(const struct zk_record *record, struct zk_apqn queue
     return zk_raw_target(record->words, record->drivers, queue.apid, queue.apqi);
 }
 
-/* Writes the id of the device whose matrix has the queue, open or not, configured or not; 0, or ENOENT where none has. */
+/*
+ * Writes the id of the device whose matrix has the queue, open or not, configured or not; 0, or ENOENT where none has. Of
+ * two, which no calls lead to, it is the one in the lower slot.
+ */
 static inline int zk_holder(const struct zk_record *record, struct zk_apqn queue, uint8_t id[ZK_ID_BYTES])
 {
     return zk_raw_holder(record->words, record->drivers, queue.apid, queue.apqi, id);
@@ -365,7 +372,7 @@ static inline int zk_unassign_control_domain(struct zk_record *record, const uin
     return zk_raw_unassign_control_domain(record->words, record->drivers, id, (const uint8_t *)text, length);
 }
 
-/* The same by number. There is no text to be bad, so none answers EINVAL; a number above every limit is ENODEV. */
+/* The same by number. There is no text to be bad, so none answers EINVAL; a number above its limit is ENODEV, however large. */
 static inline int zk_assign_adapter_number(struct zk_record *record, const uint8_t id[ZK_ID_BYTES], uint64_t number)
 {
     return zk_raw_assign_adapter_number(record->words, record->drivers, id, number);
