@@ -372,7 +372,7 @@ static inline int zk_unassign_control_domain(struct zk_record *record, const uin
     return zk_raw_unassign_control_domain(record->words, record->drivers, id, (const uint8_t *)text, length);
 }
 
-/* The same by number. There is no text to be bad, so none answers EINVAL; a number above its limit is ENODEV, however large. */
+/* The same by number. No text can be bad, so none answers EINVAL; a number above its limit is ENODEV, however large. */
 static inline int zk_assign_adapter_number(struct zk_record *record, const uint8_t id[ZK_ID_BYTES], uint64_t number)
 {
     return zk_raw_assign_adapter_number(record->words, record->drivers, id, number);
