@@ -7,7 +7,7 @@ SHELL = /bin/bash
 show = { mkdir -p target; $(1) 2>&1 | tee $(2) | grep --line-buffered '^rt: .* proved' || { cat $(2); exit 1; }; }
 
 run:
-	@echo "proving the crates of the program 'guests': on a fresh clone two to three minutes, a line for each as it is proved"
+	@echo "proving the crates of the program 'guests': on a fresh clone some three minutes, a line for each as it is proved"
 	@$(call show,rt check guests,target/run.log)
 	@target/bin/guests
 
