@@ -8,8 +8,8 @@
 //! refusals was met, and each that an assignment by number can have.
 
 use std::collections::BTreeMap;
-use std::ffi::c_int;
 use std::fmt;
+use std::os::raw::c_int;
 use std::time::{Duration, Instant};
 
 const WORDS: usize = 406;
@@ -347,7 +347,10 @@ impl Record {
     }
 
     fn assign_number(&mut self, id: &Id, kind: usize, n: u64) -> u8 {
-        let Some(p) = self.find(id) else { return 2 };
+        let p = match self.find(id) {
+            None => return 2,
+            Some(p) => p,
+        };
         if n > self.highest(kind) {
             return 19;
         }
@@ -381,7 +384,10 @@ impl Record {
     }
 
     fn unassign_number(&mut self, id: &Id, kind: usize, n: u64) -> u8 {
-        let Some(p) = self.find(id) else { return 2 };
+        let p = match self.find(id) {
+            None => return 2,
+            Some(p) => p,
+        };
         if n > self.highest(kind) {
             return 19;
         }
@@ -407,7 +413,10 @@ impl Record {
     }
 
     fn set_apmask(&mut self, text: &[u8]) -> u8 {
-        let Some(new) = mask(text, &self.apmask) else { return 22 };
+        let new = match mask(text, &self.apmask) {
+            None => return 22,
+            Some(new) => new,
+        };
         if self.takes_assigned(&new, &self.aqmask) {
             return 98;
         }
@@ -416,7 +425,10 @@ impl Record {
     }
 
     fn set_aqmask(&mut self, text: &[u8]) -> u8 {
-        let Some(new) = mask(text, &self.aqmask) else { return 22 };
+        let new = match mask(text, &self.aqmask) {
+            None => return 22,
+            Some(new) => new,
+        };
         if self.takes_assigned(&self.apmask, &new) {
             return 98;
         }
@@ -515,7 +527,10 @@ impl Record {
     }
 
     fn usable(&self, id: &Id, apid: usize, apqi: usize) -> bool {
-        let Some(p) = self.find(id) else { return false };
+        let p = match self.find(id) {
+            None => return false,
+            Some(p) => p,
+        };
         let device = &self.devices[p];
         device.open != 0
             && device.assigned[DOMAIN].has(apqi)
@@ -543,7 +558,10 @@ impl Record {
 
     fn list(&self, id: &Id, matrix: usize, place: usize, length: usize) -> Listing {
         let refused = |answer| Listing { answer, bytes: Vec::new(), next: place };
-        let Some(p) = self.find(id) else { return refused(2) };
+        let p = match self.find(id) {
+            None => return refused(2),
+            Some(p) => p,
+        };
         if length < 8 {
             return refused(28);
         }
@@ -575,7 +593,7 @@ fn halves(id: &Id) -> (u64, u64) {
 
 /// A record as C has it.
 #[repr(C)]
-struct Memory {
+pub struct Memory {
     words: [u64; WORDS],
     drivers: [u8; QUEUES],
 }
@@ -585,7 +603,7 @@ const _: () = assert!(MEMORY_BYTES == 68_784);
 
 mod library {
     use super::Memory;
-    use std::ffi::c_int;
+    use std::os::raw::c_int;
 
     extern "C" {
         pub fn header_fresh(record: *mut Memory, adapter: u64, domain: u64) -> c_int;
@@ -673,6 +691,38 @@ mod library {
     pub const LIST: [(&str, List); 2] = [("matrix", header_matrix), ("guest_matrix", header_guest_matrix)];
 }
 
+/// A hash over numbers, in their order: the same on every machine, whatever the order of its bytes.
+struct Hash(u64);
+
+impl Hash {
+    fn add(&mut self, n: u64) {
+        self.0 = (self.0 ^ n).wrapping_mul(0x9e37_79b9_7f4a_7c15).rotate_left(32);
+    }
+}
+
+/// What is lent, as a number.
+trait Number: Copy + PartialEq + fmt::Debug {
+    fn number(self) -> u64;
+}
+
+impl Number for u8 {
+    fn number(self) -> u64 {
+        self.into()
+    }
+}
+
+impl Number for u64 {
+    fn number(self) -> u64 {
+        self
+    }
+}
+
+impl Number for usize {
+    fn number(self) -> u64 {
+        self as u64
+    }
+}
+
 /// Lent memory with guard places on either side.
 struct Lent<T> {
     all: Vec<T>,
@@ -680,7 +730,7 @@ struct Lent<T> {
     before: Vec<T>,
 }
 
-impl<T: Copy + PartialEq + fmt::Debug> Lent<T> {
+impl<T: Number> Lent<T> {
     fn new(inside: &[T], mut guard: impl FnMut() -> T) -> Lent<T> {
         let mut edge = || (0..EDGE).map(|_| guard()).collect::<Vec<T>>();
         let all = [&edge()[..], inside, &edge()[..]].concat();
@@ -700,9 +750,11 @@ impl<T: Copy + PartialEq + fmt::Debug> Lent<T> {
         Ok(())
     }
 
-    /// Compares all that was lent, and the guard places: what is in front now, and the rest, which is as it was.
-    fn compare(&self, name: &str, front: &[T]) -> Result<(), String> {
+    /// Compares all that was lent, and the guard places: what is in front now, and the rest, which is as it was. All of
+    /// it goes into the hash.
+    fn compare(&self, name: &str, front: &[T], hash: &mut Hash) -> Result<(), String> {
         let end = self.all.len() - EDGE;
+        self.all.iter().for_each(|n| hash.add(n.number()));
         same(name, &self.all[EDGE..end], &[front, &self.before[EDGE + front.len()..end]].concat())?;
         self.compare_guards(name)
     }
@@ -760,6 +812,8 @@ struct Run {
     record: Record,
     lent: Lent<u64>,
     phase: &'static str,
+    /// Over every answer, all memory after each step, and every buffer lent.
+    hash: Hash,
     steps: u64,
     accepted: u64,
     refused: [u64; 256],
@@ -802,6 +856,7 @@ impl Run {
             random,
             lent,
             phase: "start",
+            hash: Hash(0),
             steps: 0,
             accepted: 0,
             refused: [0; 256],
@@ -835,6 +890,14 @@ impl Run {
         self.lent.compare_guards("record")
     }
 
+    /// An answer and the whole record, the drivers eight at a time.
+    fn hash_memory(&mut self, answer: i64) {
+        let memory = unsafe { &*self.memory() };
+        self.hash.add(answer as u64);
+        memory.words.iter().for_each(|&word| self.hash.add(word));
+        memory.drivers.chunks_exact(8).for_each(|eight| self.hash.add(u64::from_be_bytes(eight.try_into().unwrap())));
+    }
+
     /// Bytes with text around them, so that a reader that goes too far reads something else.
     fn lend(&mut self, bytes: &[u8]) -> Lent<u8> {
         let random = &mut self.random;
@@ -857,7 +920,7 @@ impl Run {
     fn lending(&mut self, bytes: &[u8], call: impl FnOnce(*mut Memory, *const u8) -> c_int) -> Result<c_int, String> {
         let mut lent = self.lend(bytes);
         let got = call(self.memory(), lent.lend());
-        lent.compare("byte to read", bytes)?;
+        lent.compare("byte to read", bytes, &mut self.hash)?;
         Ok(got)
     }
 
@@ -865,7 +928,7 @@ impl Run {
     fn lending_text(&mut self, id: &Id, text: &[u8], call: library::ByText) -> Result<c_int, String> {
         let mut lent = self.lend(text);
         let got = self.lending(id, |r, id| unsafe { call(r, id, lent.lend(), text.len()) })?;
-        lent.compare("text byte", text)?;
+        lent.compare("text byte", text, &mut self.hash)?;
         Ok(got)
     }
 
@@ -934,10 +997,11 @@ impl Run {
                 let mut more = self.lend_junk(1);
                 let got = unsafe { library::header_sweep(self.memory(), *budget, more.lend()) };
                 let (used, any) = self.record.sweep(*budget);
-                more.compare("more", &[any as u8])?;
+                more.compare("more", &[any as u8], &mut self.hash)?;
                 (got.into(), used.into())
             }
         };
+        self.hash_memory(got);
         equal("answer", got, expected)?;
         self.compare_memory()?;
         match call {
@@ -962,12 +1026,14 @@ impl Run {
 
     /// Compares what a reader answered, and counts it.
     fn answered(&mut self, reader: &'static str, got: c_int, expected: c_int) -> Result<(), String> {
+        self.hash.add(got as u64);
         self.count(reader, got);
         equal(reader, got, expected)
     }
 
     fn view_remaining(&mut self) -> Result<u32, String> {
         let got = unsafe { library::header_remaining(self.memory()) };
+        self.hash.add(got.into());
         equal("remaining", got, self.record.remaining())?;
         self.count("remaining", 0);
         self.compare_memory()?;
@@ -977,6 +1043,7 @@ impl Run {
     fn view_limits(&mut self) -> Result<(), String> {
         let memory = self.memory();
         let got = unsafe { [library::header_highest_adapter(memory), library::header_highest_domain(memory)] };
+        got.iter().for_each(|&limit| self.hash.add(limit as u64));
         equal("limits", got, [ADAPTER, DOMAIN].map(|kind| self.record.highest(kind) as c_int))?;
         self.count("highest_adapter", 0);
         self.count("highest_domain", 0);
@@ -994,7 +1061,7 @@ impl Run {
         for (reader, write, bytes) in parts {
             let mut lent = self.lend_junk(bytes.len());
             unsafe { write(self.memory(), lent.lend()) };
-            lent.compare(reader, &bytes)?;
+            lent.compare(reader, &bytes, &mut self.hash)?;
             self.count(reader, 0);
         }
         self.compare_memory()
@@ -1011,8 +1078,8 @@ impl Run {
             };
             let what = |e| format!("slot {slot}: {e}");
             self.answered("device", got, answer).map_err(what)?;
-            id.compare("id byte", &written).map_err(what)?;
-            open.compare("open", &flag).map_err(what)?;
+            id.compare("id byte", &written, &mut self.hash).map_err(what)?;
+            open.compare("open", &flag, &mut self.hash).map_err(what)?;
         }
         self.compare_memory()
     }
@@ -1033,7 +1100,7 @@ impl Run {
                 bytes.resize(NAME_BYTES, 0);
             }
             equal(reader, got, place)?;
-            lent.compare(&format!("{reader} of {value}: byte"), &bytes)?;
+            lent.compare(&format!("{reader} of {value}: byte"), &bytes, &mut self.hash)?;
             self.count(reader, named.is_some().into());
         }
         Ok(())
@@ -1058,7 +1125,7 @@ impl Run {
             Some(p) => (0, self.record.matrix(p, matrix).iter().flat_map(|set| set.bytes()).collect()),
         };
         self.answered(reader, got, answer)?;
-        masks.compare(reader, &bytes)?;
+        masks.compare(reader, &bytes, &mut self.hash)?;
         self.compare_memory()
     }
 
@@ -1072,9 +1139,10 @@ impl Run {
         let what = |e| format!("{reader}, place {place}, buffer {length}: {e}");
         let listing = self.record.list(id, matrix, place, length);
         self.answered(reader, got, listing.answer.into()).map_err(what)?;
-        buffer.compare("byte", &listing.bytes).map_err(what)?;
-        written.compare("written", (got == 0).then_some(listing.bytes.len()).as_slice()).map_err(what)?;
-        next.compare("next", (got == 0).then_some(listing.next).as_slice()).map_err(what)?;
+        buffer.compare("byte", &listing.bytes, &mut self.hash).map_err(what)?;
+        let sizes = (got == 0) as usize;
+        written.compare("written", &[listing.bytes.len()][..sizes], &mut self.hash).map_err(what)?;
+        next.compare("next", &[listing.next][..sizes], &mut self.hash).map_err(what)?;
         self.compare_memory()?;
         Ok(listing.next)
     }
@@ -1088,8 +1156,8 @@ impl Run {
             Some(p) => (0, self.record.controls(p)),
         };
         self.answered("control_domains", got, answer)?;
-        text.compare("control domains: byte", lines.as_bytes())?;
-        written.compare("control domains: written", (got == 0).then_some(lines.len()).as_slice())?;
+        text.compare("control domains: byte", lines.as_bytes(), &mut self.hash)?;
+        written.compare("control domains: written", &[lines.len()][..(got == 0) as usize], &mut self.hash)?;
         self.compare_memory()
     }
 
@@ -1111,7 +1179,7 @@ impl Run {
             Some(id) => (0, id.to_vec()),
         };
         self.answered("holder", got, answer).map_err(what)?;
-        holder.compare("holder: byte", &bytes).map_err(what)
+        holder.compare("holder: byte", &bytes, &mut self.hash).map_err(what)
     }
 
     fn list_randomly(&mut self, id: &Id, pool: &Pool, matrix: usize) -> Result<(), String> {
@@ -2131,5 +2199,6 @@ fn main() {
         println!("NOT MET: {}", missing.join(", "));
         std::process::exit(1);
     }
+    println!("hash over every answer, every buffer lent, and all memory after each step: {:016x}", run.hash.0);
     println!("nothing differs");
 }
