@@ -846,6 +846,11 @@ fn same<T: PartialEq + fmt::Debug>(name: &str, got: &[T], expected: &[T]) -> Res
     Err(format!("{name} {i}: {:?}, expected {:?}", got[i], expected[i]))
 }
 
+/// Bytes, eight at a time, as numbers.
+fn eights(bytes: &[u8]) -> impl Iterator<Item = u64> + '_ {
+    bytes.chunks_exact(8).map(|eight| u64::from_be_bytes(eight.try_into().unwrap()))
+}
+
 impl Run {
     fn new(seed: u64) -> Run {
         let mut random = Random::new(seed);
@@ -886,16 +891,17 @@ impl Run {
     fn compare_memory(&mut self) -> Result<(), String> {
         let memory = unsafe { &*self.memory() };
         same("word", &memory.words, &self.record.words())?;
-        same("driver", &memory.drivers, &self.record.drivers)?;
+        // an emulator is slow at comparing bytes
+        if eights(&memory.drivers).ne(eights(&self.record.drivers)) {
+            same("driver", &memory.drivers, &self.record.drivers)?;
+        }
         self.lent.compare_guards("record")
     }
 
-    /// An answer and the whole record, the drivers eight at a time.
-    fn hash_memory(&mut self, answer: i64) {
+    fn hash_memory(&mut self) {
         let memory = unsafe { &*self.memory() };
-        self.hash.add(answer as u64);
         memory.words.iter().for_each(|&word| self.hash.add(word));
-        memory.drivers.chunks_exact(8).for_each(|eight| self.hash.add(u64::from_be_bytes(eight.try_into().unwrap())));
+        eights(&memory.drivers).for_each(|eight| self.hash.add(eight));
     }
 
     /// Bytes with text around them, so that a reader that goes too far reads something else.
@@ -1001,7 +1007,8 @@ impl Run {
                 (got.into(), used.into())
             }
         };
-        self.hash_memory(got);
+        self.hash.add(got as u64);
+        self.hash_memory();
         equal("answer", got, expected)?;
         self.compare_memory()?;
         match call {

@@ -1,0 +1,222 @@
+#!/bin/bash
+# The library for s390x, and its tests under qemu; `make s390x` runs both parts:
+#
+#     port/s390x.sh tools    installs what is needed
+#     port/s390x.sh test     translates, builds, tests, and prints a report
+#
+# SEED and STEPS are those of the outside test, which is also run over the kit's archive, as target/outside/outside.
+set -u -o pipefail
+cd "$(dirname "$0")/.." || exit 1
+: "${SEED:=1}" "${STEPS:=1000000}"
+work=$PWD/target/s390x
+packages=(rustc gcc-s390x-linux-gnu libc6-dev-s390x-cross qemu-user)
+builds=(checked unchecked)
+cross=s390x-linux-gnu-
+
+say() {
+    echo "s390x: $*"
+}
+
+fail() {
+    say "FAILED: $*"
+    exit 1
+}
+
+# Runs a command with its output in a log, which is shown where the command fails.
+quietly() {
+    "$@" >"$work/log" 2>&1 || { tail -n 20 "$work/log"; return 1; }
+}
+
+# The version of a package, and nothing where it is not installed.
+version() {
+    dpkg-query -W -f '${db:Status-Status} ${Version}' "$1" 2>/dev/null | sed -n 's/^installed //p'
+}
+
+# ---- tools
+
+as_root() {
+    if [ "$(id -u)" = 0 ]; then
+        "$@"
+    else
+        sudo "$@"
+    fi
+}
+
+install_packages() {
+    local package missing=()
+    for package in "${packages[@]}"; do
+        [ -n "$(version "$package")" ] || missing+=("$package")
+    done
+    [ ${#missing[@]} != 0 ] || return 0
+    [ "$(id -u)" = 0 ] || command -v sudo >/dev/null || fail "only root can install ${missing[*]}, and there is no sudo"
+    say "installing ${missing[*]}"
+    # a source that is down need not be the one that has them
+    quietly as_root apt-get update || say "apt-get update failed; trying with the lists that are there"
+    for package in "${missing[@]}"; do
+        quietly as_root apt-get install -y --no-install-recommends "$package" || fail "cannot install the package $package"
+    done
+}
+
+# Rust's core and std for s390x, of the compiler's version. The package can't be installed next to the native one, so it is
+# unpacked beside, with package lists of its own: the machine's own setup stays as it is.
+unpack_std() {
+    local wanted options
+    wanted=$(version libstd-rust-dev)
+    [ -n "$wanted" ] || fail "no package libstd-rust-dev beside rustc"
+    [ ! -e "$work/std/$wanted" ] || return 0
+    say "fetching libstd-rust-dev $wanted for s390x"
+    rm -rf "$work/apt" "$work/std"
+    mkdir -p "$work/apt/lists/partial" "$work/apt/cache/archives/partial" "$work/std"
+    options=(-o APT::Architecture=s390x -o APT::Architectures=s390x -o APT::Sandbox::User=root
+        -o "Dir::State::lists=$work/apt/lists" -o "Dir::Cache=$work/apt/cache")
+    quietly apt-get "${options[@]}" update || say "apt-get update failed for s390x; trying with what it got"
+    (cd "$work/apt" && quietly apt-get "${options[@]}" download "libstd-rust-dev=$wanted") ||
+        fail "cannot fetch the package libstd-rust-dev $wanted for s390x"
+    quietly dpkg-deb -x "$work"/apt/libstd-rust-dev_*_s390x.deb "$work/std" || fail "cannot unpack libstd-rust-dev"
+    touch "$work/std/$wanted"
+}
+
+tools() {
+    local tool
+    mkdir -p "$work"
+    for tool in apt-get dpkg-query dpkg-deb python3; do
+        command -v $tool >/dev/null || fail "no $tool: this needs Debian's package tools and Python 3"
+    done
+    install_packages
+    unpack_std
+    say "tools: $(for p in "${packages[@]}"; do echo -n "$p $(version "$p"), "; done)libstd-rust-dev for s390x"
+}
+
+# ---- tests
+
+# rustc for s390x. Programs are linked statically, so that qemu needs no libraries.
+rust() {
+    "$rustc" --sysroot "$work/std/usr" --target s390x-unknown-linux-gnu -C linker=${cross}gcc -C target-feature=+crt-static "$@"
+}
+
+# archive.sh with the cross tools.
+archive() {
+    RUSTC="$rustc --sysroot $work/std/usr --target s390x-unknown-linux-gnu" CC=${cross}gcc AR=${cross}ar NM=${cross}nm \
+        port/archive.sh "$@"
+}
+
+example() {
+    ${cross}gcc -std=c11 -Wall -Wextra -pedantic -Werror -O2 -static -Iinclude -o "$2" example-c/guests.c "$1/libzokormendu.a"
+}
+
+build_outside() {
+    ${cross}gcc -std=c11 -Wall -Wextra -pedantic -Werror -O2 -Iinclude -c -o "$1/header.o" outside/header.c &&
+        ${cross}ar rcs "$1/libheader.a" "$1/header.o" &&
+        rust --edition 2021 -C opt-level=3 -L native="$1" -l static=header -l static=zokormendu -o "$1/outside" \
+            outside/outside.rs
+}
+
+# A program of the gate, with overflow checks on or off, held to its stored output.
+program() {
+    local name=$1 checks=$2 out=$work/programs/$1-$2 input=crates/$1/stdin
+    [ -e "$input" ] || input=/dev/null
+    quietly rust --edition 2021 -C opt-level=3 -C panic=abort -C overflow-checks="$checks" -o "$out" \
+        "$work/source/$name/main.rs" || fail "the program $name does not compile"
+    qemu-s390x "$out" <"$input" >"$out.out" || fail "the program $name, overflow checks $checks: exit status $?"
+    cmp "$out.out" "crates/$name/stdout" || fail "the program $name, overflow checks $checks: another output"
+}
+
+# A copy of the source with one line changed so that a check must fail: what is seen if the proofs are wrong. The C example
+# over it must be stopped by the trap.
+control() {
+    local name=$1 file=$2 from=$3 to=$4 copy=$work/source/control out=$work/control text status
+    rm -rf "$copy"
+    cp -r "$work/source/library" "$copy"
+    [ "$(grep -cF "$from" "$copy/$file")" = 1 ] || fail "control, $name: no such line in $file"
+    text=$(<"$copy/$file")
+    echo "${text/"$from"/"$to"}" >"$copy/$file"
+    quietly archive "$copy" "$out" checked && quietly example "$out" "$out/guests" || fail "control, $name: not built"
+    # in a shell of its own, which reports the signal to the log
+    bash -c 'qemu-s390x "$1"; exit $?' - "$out/guests" >"$work/log" 2>&1
+    status=$?
+    # 128 and SIGILL or SIGTRAP
+    [ $status = 132 ] || [ $status = 133 ] || fail "control, $name: not stopped, exit status $status"
+}
+
+hash_of() {
+    sed -n 's/^hash over .*: //p' "$1"
+}
+
+# The outside test over the kit's archive and over both archives for s390x, side by side.
+outside() {
+    local build name pids=() names=(x86-64 "${builds[@]}")
+    target/outside/outside "$SEED" 100000 "$STEPS" >"$work/outside.x86-64" 2>&1 & pids+=($!)
+    for build in "${builds[@]}"; do
+        qemu-s390x "$work/$build/outside" "$SEED" 100000 "$STEPS" >"$work/outside.$build" 2>&1 & pids+=($!)
+    done
+    while [ -n "$(jobs -r)" ]; do
+        sleep 1
+        [ $((SECONDS % 20)) = 0 ] || continue
+        say "outside: $(for name in "${names[@]}"; do echo -n "$name $(grep -o '[0-9]* steps' "$work/outside.$name" | tail -n 1); "; done)of $STEPS"
+    done
+    for name in "${!names[@]}"; do
+        wait "${pids[$name]}" || { tail -n 5 "$work/outside.${names[$name]}"; fail "the outside test, ${names[$name]}"; }
+        [ "$(tail -n 1 "$work/outside.${names[$name]}")" = "nothing differs" ] || fail "the outside test, ${names[$name]}"
+        [ "$(hash_of "$work/outside.${names[$name]}")" = "$(hash_of "$work/outside.x86-64")" ] ||
+            fail "the outside test, ${names[$name]}: another hash"
+    done
+}
+
+run_tests() {
+    local build name file
+    rustc=$(dpkg -L rustc | grep '/bin/rustc$') || fail "no rustc in the package rustc"
+    [ -e target/outside/outside ] || fail "no target/outside/outside: make s390x makes it"
+    rm -rf "$work/source" "$work/programs"
+    mkdir -p "$work/programs"
+
+    say "translating"
+    port/translate.py "$work/source/library" | tee "$work/report" || fail "the library is not translated"
+    local programs=()
+    for file in crates/*/src/main.rt; do
+        name=$(basename "$(dirname "$(dirname "$file")")")
+        programs+=("$name")
+        port/translate.py "$work/source/$name" "$name" || fail "the program $name is not translated"
+    done
+
+    for build in "${builds[@]}"; do
+        say "building $build/libzokormendu.a"
+        archive "$work/source/library" "$work/$build" "$build" | tee -a "$work/report" || fail "$build/libzokormendu.a is not built"
+        quietly example "$work/$build" "$work/$build/guests" || fail "the C example is not built"
+        quietly build_outside "$work/$build" || fail "the outside test is not built"
+    done
+    ${cross}readelf -h "$work/checked/zokormendu.o" | grep -q 'big endian' || fail "not big endian"
+
+    say "the C example"
+    for build in "${builds[@]}"; do
+        qemu-s390x "$work/$build/guests" | cmp - example-c/guests.expected || fail "the C example, $build: another output"
+    done
+    say "the programs of the gate: ${programs[*]}"
+    for name in "${programs[@]}"; do
+        program "$name" on
+        program "$name" off
+    done
+    say "controls: a copy with a line changed, which a check must stop"
+    control "an index" digits.rs 'if s[n - 1] ==' 'if s[n] =='
+    control "an overflow" digits.rs "return c - b'0';" "return c - b'9';"
+    say "the outside test over three archives, some five minutes"
+    outside
+
+    echo
+    say "report"
+    sed 's/^/  /' "$work/report"
+    echo "  C example: checked and unchecked agree with the expected output"
+    echo "  programs: ${programs[*]} agree with their stored output, with overflow checks on and off"
+    echo "  controls: an index past the end and an overflow are stopped by a check"
+    echo "  outside: seed $SEED, $STEPS steps, nothing differs; hash over all answers and all memory:"
+    for name in x86-64 "${builds[@]}"; do
+        echo "    $(hash_of "$work/outside.$name") $name, $(sed -n 's/^seed .* steps in //p' "$work/outside.$name")"
+    done
+    echo "  archives: target/s390x/checked/libzokormendu.a and target/s390x/unchecked/libzokormendu.a"
+    say "all agree"
+}
+
+case ${1:-} in
+tools) tools ;;
+test) run_tests ;;
+*) echo "usage: port/s390x.sh tools|test"; exit 2 ;;
+esac
