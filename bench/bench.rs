@@ -1,6 +1,7 @@
-//! The static library beside an ordinary Rust program with four 64-bit words a mask, on the same inputs in one process.
-//! Both give the same answers, which is asserted. Each line gives the best of several rounds, in nanoseconds a call.
-//! Buffers are not cleared between calls.
+//! Three sides on the same inputs in one process: the static library as the kit's compiler makes it ("Rattle"), the
+//! same source translated to Rust and compiled by rustc ("translated"), and an ordinary Rust program with four 64-bit
+//! words a mask ("Rust"). All give the same answers, which is asserted. Each line gives the best of several rounds, in
+//! nanoseconds a call, and the ratios of the first two to the third. Buffers are not cleared between calls.
 
 use std::hint::black_box;
 use std::time::{Duration, Instant};
@@ -10,35 +11,55 @@ const QUEUES: usize = 65_536;
 const LIST_BYTES: usize = 8 * QUEUES;
 const MOST_MOVES: u32 = 131_072;
 
-extern "C" {
-    fn zk_raw_fresh(words: *mut u64, drivers: *mut u8, adapter: u64, domain: u64) -> u8;
-    fn zk_raw_create(words: *mut u64, drivers: *mut u8, id: *const u8) -> u8;
-    fn zk_raw_assign_adapter(words: *mut u64, drivers: *mut u8, id: *const u8, text: *const u8, length: usize) -> u8;
-    fn zk_raw_assign_domain(words: *mut u64, drivers: *mut u8, id: *const u8, text: *const u8, length: usize) -> u8;
-    fn zk_raw_assign_control_domain(
-        words: *mut u64,
-        drivers: *mut u8,
-        id: *const u8,
-        text: *const u8,
-        length: usize,
-    ) -> u8;
-    fn zk_raw_assign_adapter_number(words: *mut u64, drivers: *mut u8, id: *const u8, number: u64) -> u8;
-    fn zk_raw_assign_domain_number(words: *mut u64, drivers: *mut u8, id: *const u8, number: u64) -> u8;
-    fn zk_raw_set_apmask(words: *mut u64, drivers: *mut u8, text: *const u8, length: usize) -> u8;
-    fn zk_raw_set_aqmask(words: *mut u64, drivers: *mut u8, text: *const u8, length: usize) -> u8;
-    fn zk_raw_configure(words: *mut u64, drivers: *mut u8, configuration: *const u8) -> u8;
-    fn zk_raw_sweep(words: *const u64, drivers: *mut u8, budget: u32, more: *mut u8) -> u32;
-    fn zk_raw_guest_matrix_masks(words: *const u64, drivers: *const u8, id: *const u8, masks: *mut u8) -> u8;
-    fn zk_raw_matrix(
-        words: *const u64,
-        drivers: *const u8,
-        id: *const u8,
-        place: usize,
-        buffer: *mut u8,
-        length: usize,
-        written: *mut usize,
-        next: *mut usize,
-    ) -> u8;
+macro_rules! libraries {
+    ($($name:ident: $kit:ident, $port:ident ($($p:ident: $t:ty),*) -> $r:ty;)*) => {
+        extern "C" {
+            $(
+                fn $kit($($p: $t),*) -> $r;
+                fn $port($($p: $t),*) -> $r;
+            )*
+        }
+
+        /// The functions of one of the two libraries, called directly.
+        impl<const PORT: bool> Record<PORT> {
+            $(
+                #[inline(always)]
+                unsafe fn $name($($p: $t),*) -> $r {
+                    if PORT { $port($($p),*) } else { $kit($($p),*) }
+                }
+            )*
+        }
+    };
+}
+
+libraries! {
+    raw_fresh: zk_raw_fresh, port_raw_fresh
+        (words: *mut u64, drivers: *mut u8, adapter: u64, domain: u64) -> u8;
+    raw_create: zk_raw_create, port_raw_create
+        (words: *mut u64, drivers: *mut u8, id: *const u8) -> u8;
+    raw_assign_adapter: zk_raw_assign_adapter, port_raw_assign_adapter
+        (words: *mut u64, drivers: *mut u8, id: *const u8, text: *const u8, length: usize) -> u8;
+    raw_assign_domain: zk_raw_assign_domain, port_raw_assign_domain
+        (words: *mut u64, drivers: *mut u8, id: *const u8, text: *const u8, length: usize) -> u8;
+    raw_assign_control_domain: zk_raw_assign_control_domain, port_raw_assign_control_domain
+        (words: *mut u64, drivers: *mut u8, id: *const u8, text: *const u8, length: usize) -> u8;
+    raw_assign_adapter_number: zk_raw_assign_adapter_number, port_raw_assign_adapter_number
+        (words: *mut u64, drivers: *mut u8, id: *const u8, number: u64) -> u8;
+    raw_assign_domain_number: zk_raw_assign_domain_number, port_raw_assign_domain_number
+        (words: *mut u64, drivers: *mut u8, id: *const u8, number: u64) -> u8;
+    raw_set_apmask: zk_raw_set_apmask, port_raw_set_apmask
+        (words: *mut u64, drivers: *mut u8, text: *const u8, length: usize) -> u8;
+    raw_set_aqmask: zk_raw_set_aqmask, port_raw_set_aqmask
+        (words: *mut u64, drivers: *mut u8, text: *const u8, length: usize) -> u8;
+    raw_configure: zk_raw_configure, port_raw_configure
+        (words: *mut u64, drivers: *mut u8, configuration: *const u8) -> u8;
+    raw_sweep: zk_raw_sweep, port_raw_sweep
+        (words: *const u64, drivers: *mut u8, budget: u32, more: *mut u8) -> u32;
+    raw_guest_matrix_masks: zk_raw_guest_matrix_masks, port_raw_guest_matrix_masks
+        (words: *const u64, drivers: *const u8, id: *const u8, masks: *mut u8) -> u8;
+    raw_matrix: zk_raw_matrix, port_raw_matrix
+        (words: *const u64, drivers: *const u8, id: *const u8, place: usize, buffer: *mut u8, length: usize,
+         written: *mut usize, next: *mut usize) -> u8;
 }
 
 // ---------------------------------------------------------------------------------------------------------------------
@@ -327,7 +348,7 @@ impl Service {
 }
 
 // ---------------------------------------------------------------------------------------------------------------------
-// Both sides.
+// The three sides.
 // ---------------------------------------------------------------------------------------------------------------------
 
 fn halves(id: &Id) -> (u64, u64) {
@@ -341,92 +362,87 @@ fn device_id(n: u8) -> Id {
     id
 }
 
-struct Both {
+/// What a library keeps: the kit's, or with PORT the translated one.
+struct Record<const PORT: bool> {
     words: Vec<u64>,
     drivers: Vec<u8>,
-    service: Service,
-    other: Box<[u8; QUEUES]>,
 }
 
-impl Both {
-    fn new() -> Both {
-        let mut both = Both {
-            words: vec![0; WORDS],
-            drivers: vec![0; QUEUES],
-            service: Service::new(),
-            other: vec![0; QUEUES].into_boxed_slice().try_into().unwrap(),
-        };
-        let (words, drivers) = both.lend();
-        assert_eq!(unsafe { zk_raw_fresh(words, drivers, 255, 255) }, 0);
-        both
+impl<const PORT: bool> Record<PORT> {
+    fn new() -> Record<PORT> {
+        let mut record = Record { words: vec![0; WORDS], drivers: vec![0; QUEUES] };
+        let (words, drivers) = record.lend();
+        assert_eq!(unsafe { Self::raw_fresh(words, drivers, 255, 255) }, 0);
+        record
     }
 
     fn lend(&mut self) -> (*mut u64, *mut u8) {
         (self.words.as_mut_ptr(), self.drivers.as_mut_ptr())
     }
 
-    fn create(&mut self, id: &Id) {
+    fn create(&mut self, id: &Id) -> u8 {
         let (words, drivers) = self.lend();
-        assert_eq!(unsafe { zk_raw_create(words, drivers, id.as_ptr()) }, 0);
-        self.service.create(id);
-    }
-
-    fn assign(&mut self, id: &Id, kind: u8, n: u8) {
-        let text = format!("{n}");
-        assert_eq!(self.library_assign(id, kind, text.as_bytes()), 0);
-        assert_eq!(self.service.assign(id, kind, text.as_bytes()), 0);
+        unsafe { Self::raw_create(words, drivers, id.as_ptr()) }
     }
 
     #[inline(always)]
-    fn library_assign(&mut self, id: &Id, kind: u8, text: &[u8]) -> u8 {
+    fn assign(&mut self, id: &Id, kind: u8, text: &[u8]) -> u8 {
         let ((words, drivers), id, length) = (self.lend(), id.as_ptr(), text.len());
         unsafe {
             match kind {
-                0 => zk_raw_assign_adapter(words, drivers, id, text.as_ptr(), length),
-                1 => zk_raw_assign_domain(words, drivers, id, text.as_ptr(), length),
-                _ => zk_raw_assign_control_domain(words, drivers, id, text.as_ptr(), length),
+                0 => Self::raw_assign_adapter(words, drivers, id, text.as_ptr(), length),
+                1 => Self::raw_assign_domain(words, drivers, id, text.as_ptr(), length),
+                _ => Self::raw_assign_control_domain(words, drivers, id, text.as_ptr(), length),
             }
         }
     }
 
     #[inline(always)]
-    fn library_assign_number(&mut self, id: &Id, kind: u8, n: u64) -> u8 {
+    fn assign_number(&mut self, id: &Id, kind: u8, n: u64) -> u8 {
         let (words, drivers) = self.lend();
         unsafe {
             match kind {
-                0 => zk_raw_assign_adapter_number(words, drivers, id.as_ptr(), n),
-                _ => zk_raw_assign_domain_number(words, drivers, id.as_ptr(), n),
+                0 => Self::raw_assign_adapter_number(words, drivers, id.as_ptr(), n),
+                _ => Self::raw_assign_domain_number(words, drivers, id.as_ptr(), n),
             }
         }
     }
 
-    fn set_masks(&mut self, apmask: Mask, aqmask: Mask) {
-        let text = |m: Mask| format!("0x{}", m.0.map(|w| format!("{w:016x}")).concat());
-        let (ap, aq) = (text(apmask), text(aqmask));
+    fn set_masks(&mut self, ap: &str, aq: &str) {
         let (words, drivers) = self.lend();
-        assert_eq!(unsafe { zk_raw_set_apmask(words, drivers, ap.as_ptr(), ap.len()) }, 0);
-        assert_eq!(unsafe { zk_raw_set_aqmask(words, drivers, aq.as_ptr(), aq.len()) }, 0);
-        self.service.apmask = apmask;
-        self.service.aqmask = aqmask;
+        assert_eq!(unsafe { Self::raw_set_apmask(words, drivers, ap.as_ptr(), ap.len()) }, 0);
+        assert_eq!(unsafe { Self::raw_set_aqmask(words, drivers, aq.as_ptr(), aq.len()) }, 0);
     }
 
-    fn configure(&mut self, bytes: &[u8; 352]) {
+    #[inline(always)]
+    fn configure(&mut self, bytes: &[u8; 352]) -> u8 {
         let (words, drivers) = self.lend();
-        let answer = unsafe { zk_raw_configure(words, drivers, bytes.as_ptr()) };
-        assert_eq!((answer, self.service.configure(&mut self.other, bytes)), (0, 0));
+        unsafe { Self::raw_configure(words, drivers, bytes.as_ptr()) }
     }
 
-    fn sweep(&mut self) {
-        let ((words, drivers), mut more) = (self.lend(), 0);
-        unsafe { zk_raw_sweep(words, drivers, MOST_MOVES, &mut more) };
-        self.service.sweep(&mut self.other, MOST_MOVES);
-        self.assert_same();
+    /// A sweep with all the moves that there can be: its time, the moves used, and whether any remain.
+    fn sweep(&mut self) -> (Duration, (u32, u8)) {
+        let ((words, drivers), mut used, mut more) = (self.lend(), 0, 9);
+        let time = timed(|| used = unsafe { Self::raw_sweep(words, drivers, black_box(MOST_MOVES), &mut more) });
+        (time, (used, more))
     }
 
-    /// Everything that either side keeps.
-    fn assert_same(&self) {
-        assert!(self.drivers[..] == self.other[..], "drivers differ");
-        let s = &self.service;
+    /// Lists what is assigned, from the start: the time, and the answer, the bytes written and the next place.
+    fn list(&self, id: &Id, buffer: &mut [u8]) -> (Duration, (u8, usize, usize)) {
+        let (mut answer, mut written, mut next) = (9, 9, 9);
+        let (words, drivers) = (self.words.as_ptr(), self.drivers.as_ptr());
+        let time = timed(|| {
+            answer = unsafe {
+                let (id, place, buffer, length) = (id.as_ptr(), black_box(0), buffer.as_mut_ptr(), buffer.len());
+                Self::raw_matrix(words, drivers, id, place, buffer, length, &mut written, &mut next)
+            };
+        });
+        (time, (answer, written, next))
+    }
+
+    /// Everything that either keeps.
+    fn assert_same(&self, s: &Service, drivers: &[u8; QUEUES]) {
+        assert!(self.drivers[..] == drivers[..], "drivers differ");
         let at = |k: usize| Mask(self.words[k..k + 4].try_into().unwrap());
         assert_eq!([at(2), at(6), at(10), at(14), at(18)], [s.apmask, s.aqmask, s.adapters, s.domains, s.controls]);
         assert!((0..256).all(|a| self.words[22 + a] == s.types[a] as u64), "types differ");
@@ -435,6 +451,63 @@ impl Both {
             assert_eq!((self.words[k + 2], self.words[k + 3]), halves(&device.id));
             assert_eq!([at(k + 4), at(k + 8), at(k + 12)], [device.adapters, device.domains, device.controls]);
         }
+    }
+}
+
+struct Sides {
+    kit: Record<false>,
+    port: Record<true>,
+    service: Service,
+    other: Box<[u8; QUEUES]>,
+}
+
+impl Sides {
+    fn new() -> Sides {
+        Sides {
+            kit: Record::new(),
+            port: Record::new(),
+            service: Service::new(),
+            other: vec![0; QUEUES].into_boxed_slice().try_into().unwrap(),
+        }
+    }
+
+    fn create(&mut self, id: &Id) {
+        assert_eq!([self.kit.create(id), self.port.create(id)], [0; 2]);
+        self.service.create(id);
+    }
+
+    fn assign(&mut self, id: &Id, kind: u8, n: u8) {
+        let text = format!("{n}");
+        let text = text.as_bytes();
+        let library = [self.kit.assign(id, kind, text), self.port.assign(id, kind, text)];
+        assert_eq!((library, self.service.assign(id, kind, text)), ([0; 2], 0));
+    }
+
+    fn set_masks(&mut self, apmask: Mask, aqmask: Mask) {
+        let text = |m: Mask| format!("0x{}", m.0.map(|w| format!("{w:016x}")).concat());
+        let (ap, aq) = (text(apmask), text(aqmask));
+        self.kit.set_masks(&ap, &aq);
+        self.port.set_masks(&ap, &aq);
+        self.service.apmask = apmask;
+        self.service.aqmask = aqmask;
+    }
+
+    fn configure(&mut self, bytes: &[u8; 352]) {
+        let library = [self.kit.configure(bytes), self.port.configure(bytes)];
+        assert_eq!((library, self.service.configure(&mut self.other, bytes)), ([0; 2], 0));
+    }
+
+    fn sweep(&mut self) {
+        self.kit.sweep();
+        self.port.sweep();
+        self.service.sweep(&mut self.other, MOST_MOVES);
+        self.assert_same();
+    }
+
+    /// Everything that the sides keep.
+    fn assert_same(&self) {
+        self.kit.assert_same(&self.service, &self.other);
+        self.port.assert_same(&self.service, &self.other);
     }
 }
 
@@ -452,26 +525,25 @@ fn timed(work: impl FnOnce()) -> Duration {
     begin.elapsed()
 }
 
-/// The best of several rounds of both, in turn; the first warms up. A round answers the time of each.
-fn best(rounds: usize, mut round: impl FnMut() -> [Duration; 2]) -> [Duration; 2] {
+/// The best of several rounds of the three, in turn; the first warms up. A round answers the time of each.
+fn best(rounds: usize, mut round: impl FnMut() -> [Duration; 3]) -> [Duration; 3] {
     round();
-    let mut best = [Duration::MAX; 2];
+    let mut best = [Duration::MAX; 3];
     for _ in 0..rounds {
         let times = round();
-        for side in 0..2 {
+        for side in 0..3 {
             best[side] = best[side].min(times[side]);
         }
     }
     best
 }
 
-fn show(name: &str, calls: u32, [rattle, rust]: [Duration; 2]) {
-    let each = |d: Duration| d.as_nanos() as f64 / calls as f64;
+fn show(name: &str, calls: u32, times: [Duration; 3]) {
+    let [kit, port, rust] = times.map(|d| d.as_nanos() as f64 / calls as f64);
     println!(
-        "{name:72} Rattle {:10.1} ns   Rust {:10.1} ns   ratio {:.2}",
-        each(rattle),
-        each(rust),
-        each(rattle) / each(rust)
+        "{name:56} Rattle {kit:9.1} ns   translated {port:9.1} ns   Rust {rust:9.1} ns   ratio {:.2} and {:.2}",
+        kit / rust,
+        port / rust
     );
 }
 
@@ -515,6 +587,29 @@ const BATCH: usize = 1_000;
 const BATCH_ACCEPTED: usize = 340;
 const BATCH_IN_USE: usize = 330;
 
+impl<const PORT: bool> Record<PORT> {
+    /// The time of a batch, after going back to the words at the start.
+    fn batch<const BY_NUMBER: bool>(
+        &mut self,
+        start: &[u64],
+        ids: &[Id],
+        batch: &[Command],
+        answers: &mut [u8],
+    ) -> Duration {
+        self.words.copy_from_slice(start);
+        timed(|| {
+            for (c, answer) in batch.iter().zip(answers) {
+                let id = &ids[c.device as usize];
+                *answer = if BY_NUMBER {
+                    self.assign_number(id, c.kind, black_box(c.number).into())
+                } else {
+                    self.assign(id, c.kind, &black_box(&c.text)[..c.length as usize])
+                };
+            }
+        })
+    }
+}
+
 /// Eight devices in four pairs. Devices 0 to 3 hold two domains each and ask for adapters; 4 to 7 hold two adapters each and
 /// ask for domains. The two of a pair hold the same numbers, so what one has of the other kind is in use for the other.
 /// Numbers from 170 on are in both host masks, and what the devices hold is such, so asking for another of them meets a
@@ -522,26 +617,26 @@ const BATCH_IN_USE: usize = 330;
 /// free, and a batch asks for each of them once, for one of the two.
 ///
 /// So a batch of 1,000 has 340 accepted (all of them new: four pairs of 85), 330 refused with 98 and 330 with 99. Before
-/// each of 1,000 batches both sides go back to the state at the start, outside of the timed part.
+/// each of 1,000 batches the sides go back to the state at the start, outside of the timed part.
 ///
 /// With BY_NUMBER the same commands are given the number itself.
 fn assigns<const BY_NUMBER: bool>() {
-    let mut both = Both::new();
+    let mut sides = Sides::new();
     let mut host = Mask::NONE;
     (170..=255).for_each(|n| host.set(n));
-    both.set_masks(host, host);
+    sides.set_masks(host, host);
     for n in 0..8 {
-        both.create(&device_id(n));
+        sides.create(&device_id(n));
     }
     for n in 0..8 {
         let (id, pair, kind) = (device_id(n), n / 2 % 2, (n >= 4) as u8);
-        both.assign(&id, 1 - kind, 180 + pair);
-        both.assign(&id, 1 - kind, 220 + pair);
+        sides.assign(&id, 1 - kind, 180 + pair);
+        sides.assign(&id, 1 - kind, 220 + pair);
         for number in if n % 2 == 0 { 0..=42 } else { 43..=84 } {
-            both.assign(&id, kind, number);
+            sides.assign(&id, kind, number);
         }
     }
-    both.assert_same();
+    sides.assert_same();
 
     let mut random = Random(12_345);
     let mut commands = Vec::with_capacity(BATCHES * BATCH);
@@ -569,46 +664,38 @@ fn assigns<const BY_NUMBER: bool>() {
     }
 
     let ids: Vec<Id> = (0..8).map(device_id).collect();
-    let (words, service) = (both.words.clone(), both.service.clone());
-    let (mut answers, mut others) = (vec![0u8; BATCHES * BATCH], vec![0u8; BATCHES * BATCH]);
+    let (kit, port, service) = (sides.kit.words.clone(), sides.port.words.clone(), sides.service.clone());
+    let mut answers: [Vec<u8>; 3] = std::array::from_fn(|_| vec![0u8; BATCHES * BATCH]);
     let times = best(7, || {
-        let mut times = [Duration::ZERO; 2];
+        let mut times = [Duration::ZERO; 3];
         for (k, batch) in commands.chunks(BATCH).enumerate() {
-            let part = k * BATCH..(k + 1) * BATCH;
-            // in turn, as the second finds the batch in the cache
-            for side in [k % 2, 1 - k % 2] {
-                if side == 0 {
-                    both.words.copy_from_slice(&words);
-                    times[0] += timed(|| {
-                        for (c, answer) in batch.iter().zip(&mut answers[part.clone()]) {
-                            let id = &ids[c.device as usize];
-                            *answer = if BY_NUMBER {
-                                both.library_assign_number(id, c.kind, black_box(c.number).into())
-                            } else {
-                                both.library_assign(id, c.kind, &black_box(&c.text)[..c.length as usize])
-                            };
-                        }
-                    });
-                } else {
-                    both.service.devices.clone_from(&service.devices);
-                    times[1] += timed(|| {
-                        for (c, answer) in batch.iter().zip(&mut others[part.clone()]) {
-                            let id = &ids[c.device as usize];
-                            *answer = if BY_NUMBER {
-                                both.service.assign_number(id, c.kind, black_box(c.number).into())
-                            } else {
-                                both.service.assign(id, c.kind, &black_box(&c.text)[..c.length as usize])
-                            };
-                        }
-                    });
-                }
+            // in turn, as the first to go brings the batch into the cache
+            for side in [k % 3, (k + 1) % 3, (k + 2) % 3] {
+                let answers = &mut answers[side][k * BATCH..(k + 1) * BATCH];
+                times[side] += match side {
+                    0 => sides.kit.batch::<BY_NUMBER>(&kit, &ids, batch, answers),
+                    1 => sides.port.batch::<BY_NUMBER>(&port, &ids, batch, answers),
+                    _ => {
+                        sides.service.devices.clone_from(&service.devices);
+                        timed(|| {
+                            for (c, answer) in batch.iter().zip(answers) {
+                                let id = &ids[c.device as usize];
+                                *answer = if BY_NUMBER {
+                                    sides.service.assign_number(id, c.kind, black_box(c.number).into())
+                                } else {
+                                    sides.service.assign(id, c.kind, &black_box(&c.text)[..c.length as usize])
+                                };
+                            }
+                        })
+                    }
+                };
             }
         }
-        assert!(answers == others, "answers differ");
-        both.assert_same();
+        assert!(answers[0] == answers[2] && answers[1] == answers[2], "answers differ");
+        sides.assert_same();
         times
     });
-    let count = |value| answers.iter().filter(|&&a| a == value).count();
+    let count = |value| answers[2].iter().filter(|&&a| a == value).count();
     let counts = [count(0), count(98), count(99)];
     assert_eq!(
         counts,
@@ -630,111 +717,120 @@ fn assigns<const BY_NUMBER: bool>() {
 const EVERY_OTHER: Mask = Mask([0xaaaa_aaaa_aaaa_aaaa; 4]);
 const THE_OTHERS: Mask = Mask([0x5555_5555_5555_5555; 4]);
 
+const CONFIGURES: usize = 100;
+const GUEST_MASKS: u32 = 20;
+
+impl<const PORT: bool> Record<PORT> {
+    /// The time of all the calls.
+    fn configures(&mut self, configurations: &[[u8; 352]; 2]) -> Duration {
+        timed(|| {
+            for k in 0..CONFIGURES {
+                let answer = self.configure(black_box(&configurations[k % 2]));
+                assert_eq!(black_box(answer), 0);
+            }
+        })
+    }
+
+    /// The time of all the calls.
+    fn guest_masks(&self, id: &Id, out: &mut [u8; 96]) -> Duration {
+        timed(|| {
+            for _ in 0..GUEST_MASKS {
+                let (words, drivers) = (black_box(self.words.as_ptr()), black_box(self.drivers.as_ptr()));
+                let answer = unsafe { Self::raw_guest_matrix_masks(words, drivers, id.as_ptr(), out.as_mut_ptr()) };
+                assert_eq!(answer, 0);
+            }
+        })
+    }
+}
+
 fn configures() {
-    const CALLS: usize = 100;
-    let mut both = Both::new();
+    let mut sides = Sides::new();
     let configurations = [configuration(EVERY_OTHER, EVERY_OTHER, 11), configuration(Mask::ALL, Mask::ALL, 10)];
-    both.configure(&configurations[1]);
-    both.sweep();
+    sides.configure(&configurations[1]);
+    sides.sweep();
     let times = best(9, || {
-        let rattle = timed(|| {
-            for k in 0..CALLS {
-                let bytes = black_box(&configurations[k % 2]);
-                let (words, drivers) = both.lend();
-                let answer = unsafe { zk_raw_configure(words, drivers, bytes.as_ptr()) };
-                assert_eq!(black_box(answer), 0);
-            }
-        });
+        let kit = sides.kit.configures(&configurations);
+        let port = sides.port.configures(&configurations);
         let rust = timed(|| {
-            for k in 0..CALLS {
-                let answer = both.service.configure(&mut both.other, black_box(&configurations[k % 2]));
+            for k in 0..CONFIGURES {
+                let answer = sides.service.configure(&mut sides.other, black_box(&configurations[k % 2]));
                 assert_eq!(black_box(answer), 0);
             }
         });
-        both.assert_same();
-        [rattle, rust]
+        sides.assert_same();
+        [kit, port, rust]
     });
-    show("configure: 256 by 256 and 128 by 128 in turn", CALLS as u32, times);
+    show("configure: 256 by 256 and 128 by 128 in turn", CONFIGURES as u32, times);
 }
 
 fn sweeps() {
-    let mut both = Both::new();
-    both.configure(&configuration(Mask::ALL, Mask::ALL, 10));
-    both.set_masks(EVERY_OTHER, Mask::ALL);
-    both.sweep();
+    let mut sides = Sides::new();
+    sides.configure(&configuration(Mask::ALL, Mask::ALL, 10));
+    sides.set_masks(EVERY_OTHER, Mask::ALL);
+    sides.sweep();
     let mut now = EVERY_OTHER;
     let times = best(25, || {
         now = if now == EVERY_OTHER { THE_OTHERS } else { EVERY_OTHER };
-        both.set_masks(now, Mask::ALL);
-        let (mut used, mut more, mut answer) = (0, 9, (0, true));
-        let (words, drivers) = both.lend();
-        let rattle = timed(|| used = unsafe { zk_raw_sweep(words, drivers, black_box(MOST_MOVES), &mut more) });
-        let rust = timed(|| answer = both.service.sweep(&mut both.other, black_box(MOST_MOVES)));
-        assert_eq!(((used, more), answer), ((MOST_MOVES, 0), (MOST_MOVES, false)));
-        both.assert_same();
-        [rattle, rust]
+        sides.set_masks(now, Mask::ALL);
+        let (kit, a) = sides.kit.sweep();
+        let (port, b) = sides.port.sweep();
+        let mut answer = (0, true);
+        let rust = timed(|| answer = sides.service.sweep(&mut sides.other, black_box(MOST_MOVES)));
+        assert_eq!(([a, b], answer), ([(MOST_MOVES, 0); 2], (MOST_MOVES, false)));
+        sides.assert_same();
+        [kit, port, rust]
     });
     show("sweep after the host masks are exchanged: 131072 moves", 1, times);
 }
 
 /// A device with everything assigned, everything configured and bound to passthrough.
-fn whole_matrix() -> (Both, Id) {
-    let mut both = Both::new();
+fn whole_matrix() -> (Sides, Id) {
+    let mut sides = Sides::new();
     let id = device_id(5);
-    both.set_masks(Mask::NONE, Mask::NONE);
-    both.configure(&configuration(Mask::ALL, Mask::ALL, 10));
-    both.sweep();
-    both.create(&id);
+    sides.set_masks(Mask::NONE, Mask::NONE);
+    sides.configure(&configuration(Mask::ALL, Mask::ALL, 10));
+    sides.sweep();
+    sides.create(&id);
     for n in 0..=255 {
-        both.assign(&id, 0, n);
-        both.assign(&id, 1, n);
-        both.assign(&id, 2, n);
+        sides.assign(&id, 0, n);
+        sides.assign(&id, 1, n);
+        sides.assign(&id, 2, n);
     }
-    both.assert_same();
-    (both, id)
+    sides.assert_same();
+    (sides, id)
 }
 
 fn listings() {
-    let (both, id) = whole_matrix();
-    let mut buffers = [vec![0u8; LIST_BYTES], vec![0u8; LIST_BYTES]];
+    let (sides, id) = whole_matrix();
+    let mut buffers = [vec![0u8; LIST_BYTES], vec![0u8; LIST_BYTES], vec![0u8; LIST_BYTES]];
     let times = best(25, || {
-        let (mut answer, mut written, mut next, mut other) = (9, 9, 9, (9, 9, 9));
-        let (words, drivers) = (both.words.as_ptr(), both.drivers.as_ptr());
-        let [a, b] = &mut buffers;
-        let rattle = timed(|| {
-            answer = unsafe {
-                let (id, place, buffer) = (id.as_ptr(), black_box(0), a.as_mut_ptr());
-                zk_raw_matrix(words, drivers, id, place, buffer, LIST_BYTES, &mut written, &mut next)
-            };
-        });
-        let rust = timed(|| other = both.service.list(&id, black_box(0), b));
-        assert_eq!(((answer, written, next), other), ((0, LIST_BYTES, QUEUES), (0, LIST_BYTES, QUEUES)));
-        assert!(a == b, "listings differ");
-        [rattle, rust]
+        let [a, b, c] = &mut buffers;
+        let (kit, first) = sides.kit.list(&id, a);
+        let (port, second) = sides.port.list(&id, b);
+        let mut third = (9, 9, 9);
+        let rust = timed(|| third = sides.service.list(&id, black_box(0), c));
+        assert_eq!([first, second, third], [(0, LIST_BYTES, QUEUES); 3]);
+        assert!(a == c && b == c, "listings differ");
+        [kit, port, rust]
     });
     show("list: 65536 lines", 1, times);
 }
 
 fn guest_masks() {
-    const CALLS: u32 = 20;
-    let (both, id) = whole_matrix();
-    let (mut a, mut b) = ([0; 96], [1; 96]);
+    let (sides, id) = whole_matrix();
+    let (mut a, mut b, mut c) = ([0; 96], [1; 96], [2; 96]);
     let times = best(15, || {
-        let rattle = timed(|| {
-            for _ in 0..CALLS {
-                let (words, drivers) = (black_box(both.words.as_ptr()), black_box(both.drivers.as_ptr()));
-                assert_eq!(unsafe { zk_raw_guest_matrix_masks(words, drivers, id.as_ptr(), a.as_mut_ptr()) }, 0);
-            }
-        });
+        let kit = sides.kit.guest_masks(&id, &mut a);
+        let port = sides.port.guest_masks(&id, &mut b);
         let rust = timed(|| {
-            for _ in 0..CALLS {
-                assert_eq!(black_box(&both.service).guest_masks(black_box(&both.other), &id, &mut b), 0);
+            for _ in 0..GUEST_MASKS {
+                assert_eq!(black_box(&sides.service).guest_masks(black_box(&sides.other), &id, &mut c), 0);
             }
         });
-        assert_eq!((a, b), ([255; 96], [255; 96]));
-        [rattle, rust]
+        assert_eq!([a, b, c], [[255; 96]; 3]);
+        [kit, port, rust]
     });
-    show("guest masks: 256 by 256", CALLS, times);
+    show("guest masks: 256 by 256", GUEST_MASKS, times);
 }
 
 fn main() {
