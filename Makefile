@@ -47,18 +47,20 @@ $(LIB): $(shell find crates.txt crates)
 	@ar rcs $(LIB) target/lib/objects/*.o
 	@echo "$(LIB): $$(nm -g $(LIB) | grep -c ' T zk_raw_') functions"
 
+# What is installed: the archive above, or one that `make s390x` made.
+ARCHIVE = $(LIB)
 PREFIX = /usr/local
 LIBDIR = $(PREFIX)/lib
 DESTDIR =
 VERSION = $(shell sed -n 's/^.define ZK_VERSION_STRING "\(.*\)"/\1/p' include/zokormendu.h)
 
-install: library
+install: $(ARCHIVE)
 	@for path in "$(PREFIX)" "$(LIBDIR)"; do case "$$path" in /*) ;; *) echo "no absolute path: $$path"; exit 1 ;; esac; done
 	install -d "$(DESTDIR)$(PREFIX)/include" "$(DESTDIR)$(LIBDIR)/pkgconfig"
 	install -m 644 include/zokormendu.h "$(DESTDIR)$(PREFIX)/include/zokormendu.h"
-	install -m 644 $(LIB) "$(DESTDIR)$(LIBDIR)/libzokormendu.a"
-	{ echo 'prefix=$(PREFIX)'; echo 'libdir=$(LIBDIR)'; sed 's/@VERSION@/$(VERSION)/' zokormendu.pc.in; } >target/lib/zokormendu.pc
-	install -m 644 target/lib/zokormendu.pc "$(DESTDIR)$(LIBDIR)/pkgconfig/zokormendu.pc"
+	install -m 644 "$(ARCHIVE)" "$(DESTDIR)$(LIBDIR)/libzokormendu.a"
+	{ echo 'prefix=$(PREFIX)'; echo 'libdir=$(LIBDIR)'; sed 's/@VERSION@/$(VERSION)/' zokormendu.pc.in; } >target/zokormendu.pc
+	install -m 644 target/zokormendu.pc "$(DESTDIR)$(LIBDIR)/pkgconfig/zokormendu.pc"
 
 # A C program over an installed copy of the library, linked as README says and held to its expected output; the header is
 # C++ too.
@@ -81,16 +83,50 @@ SEED = 1
 SECONDS = 120
 LINK = -L native=target/lib -l static=zokormendu
 
-outside: library
+outside: target/outside/outside
+	target/outside/outside $(SEED) $(SECONDS)
+
+target/outside/outside: $(LIB) outside/outside.rs outside/header.c include/zokormendu.h
 	@mkdir -p target/outside
 	cc $(CFLAGS) -Iinclude -c -o target/outside/header.o outside/header.c
 	@rm -f target/outside/libheader.a
 	ar rcs target/outside/libheader.a target/outside/header.o
 	rustc --edition 2021 -O -L native=target/outside -l static=header $(LINK) -o target/outside/outside outside/outside.rs
-	target/outside/outside $(SEED) $(SECONDS)
 
-# The library beside an ordinary Rust program, for speed.
+# The library beside an ordinary Rust program, for speed; and, with names of its own, what rustc makes of the same source.
+# Functions of the program begin at multiples of 64, so that its times do not hang on where the linker puts them.
 bench: library
 	@mkdir -p target/bench
-	rustc --edition 2021 -C opt-level=3 $(LINK) -o target/bench/bench bench/bench.rs
+	port/translate.py target/bench/source
+	port/archive.sh target/bench/source target/bench/unchecked unchecked
+	nm -g --defined-only target/bench/unchecked/zokormendu.o | awk '{n = $$3; sub(/^zk/, "port", n); print $$3, n}' >target/bench/names
+	objcopy --redefine-syms=target/bench/names target/bench/unchecked/libzokormendu.a target/bench/libport.a
+	rustc --edition 2021 -C opt-level=3 -C llvm-args=-align-all-functions=6 $(LINK) -L native=target/bench -l static=port \
+	    -o target/bench/bench bench/bench.rs
 	target/bench/bench
+
+# The library for the machine that the cards are in: translated to Rust, built for s390x, and tested under qemu. Installs Debian's
+# packages. SEED and STEPS are those of the outside test.
+.PHONY: s390x s390x-diff
+STEPS = 1000000
+
+s390x:
+	@port/s390x.sh tools
+	@$(MAKE) --no-print-directory target/outside/outside
+	@SEED=$(SEED) STEPS=$(STEPS) port/s390x.sh test
+
+target/s390x/%/libzokormendu.a:
+	@echo "no $@: make s390x makes it"; exit 1
+
+# The translation beside its source, crate by crate, and the shims, which have none. CRATES="mask rules" shows these alone.
+CRATES = $(shell sed -n 's/^\([a-z_]*\):.*/\1/p' crates.txt) lib
+
+s390x-diff:
+	@port/translate.py target/s390x/diff
+	@for c in $(CRATES); do \
+	    [ -e target/s390x/diff/$$c.rs ] || continue; \
+	    source=crates/$$c/src/lib.rt; \
+	    if [ -e $$source ]; then echo; echo "$$source"; else source=/dev/null; echo; echo "modules and shims"; fi; \
+	    diff -U 1 $$source target/s390x/diff/$$c.rs | tail -n +3; \
+	    [ $${PIPESTATUS[0]} -lt 2 ] || exit 1; \
+	done

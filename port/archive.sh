@@ -12,8 +12,8 @@ source=$1 out=$2 mode=$3
 header=$(dirname "$0")/../include/zokormendu.h
 : "${RUSTC:=rustc}" "${CC:=cc}" "${AR:=ar}" "${NM:=nm}"
 case $mode in
-checked) flags="-C overflow-checks=on" ;;
-unchecked) flags="-C overflow-checks=off --cfg unchecked" ;;
+checked) flags=(-C overflow-checks=on) ;;
+unchecked) flags=(-C overflow-checks=off --cfg unchecked) ;;
 *) echo "archive: checked or unchecked, not $mode"; exit 2 ;;
 esac
 
@@ -25,19 +25,19 @@ fail() {
 rm -rf "$out"
 mkdir -p "$out"
 # One unit together with Rust's core, so that an object is left that needs nothing of it.
-$RUSTC --edition 2021 --crate-type staticlib --crate-name zokormendu $flags -C opt-level=3 -C panic=abort -C lto=fat \
+$RUSTC --edition 2021 --crate-type staticlib --crate-name zokormendu "${flags[@]}" -C opt-level=3 -C panic=abort -C lto=fat \
     -C codegen-units=1 -o "$out/rustc.a" "$source/lib.rs"
 # The other members are rustc's helpers for arithmetic.
 member=$($AR t "$out/rustc.a" | grep '\.zokormendu\.') || fail "no object of the library"
 [ "$(wc -l <<<"$member")" = 1 ] || fail "more than one object of the library"
 $AR p "$out/rustc.a" "$member" >"$out/zokormendu.o"
 rm "$out/rustc.a"
-objects=$out/zokormendu.o
+objects=("$out/zokormendu.o")
 if [ "$mode" = checked ]; then
     $CC -O2 -ffreestanding -c -o "$out/stop.o" "$(dirname "$0")/stop.c"
-    objects="$objects $out/stop.o"
+    objects+=("$out/stop.o")
 fi
-$AR rcs "$out/libzokormendu.a" $objects
+$AR rcs "$out/libzokormendu.a" "${objects[@]}"
 
 exports=$($NM -g --defined-only "$out/zokormendu.o" | awk '{print $3}' | sort)
 declared=$(grep -o '\bzk_raw_[a-z_]*(' "$header" | tr -d '(' | sort -u)

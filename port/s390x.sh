@@ -7,8 +7,10 @@
 # SEED and STEPS are those of the outside test, which is also run over the kit's archive, as target/outside/outside.
 set -u -o pipefail
 cd "$(dirname "$0")/.." || exit 1
+export PYTHONDONTWRITEBYTECODE=1
 : "${SEED:=1}" "${STEPS:=1000000}"
-work=$PWD/target/s390x
+here=$PWD
+work=target/s390x
 packages=(rustc gcc-s390x-linux-gnu libc6-dev-s390x-cross qemu-user)
 builds=(checked unchecked)
 cross=s390x-linux-gnu-
@@ -24,7 +26,7 @@ fail() {
 
 # Runs a command with its output in a log, which is shown where the command fails.
 quietly() {
-    "$@" >"$work/log" 2>&1 || { tail -n 20 "$work/log"; return 1; }
+    "$@" >"$here/$work/log" 2>&1 || { tail -n 20 "$here/$work/log"; return 1; }
 }
 
 # The version of a package, and nothing where it is not installed.
@@ -68,7 +70,7 @@ unpack_std() {
     rm -rf "$work/apt" "$work/std"
     mkdir -p "$work/apt/lists/partial" "$work/apt/cache/archives/partial" "$work/std"
     options=(-o APT::Architecture=s390x -o APT::Architectures=s390x -o APT::Sandbox::User=root
-        -o "Dir::State::lists=$work/apt/lists" -o "Dir::Cache=$work/apt/cache")
+        -o "Dir::State::lists=$here/$work/apt/lists" -o "Dir::Cache=$here/$work/apt/cache")
     quietly apt-get "${options[@]}" update || say "apt-get update failed for s390x; trying with what it got"
     (cd "$work/apt" && quietly apt-get "${options[@]}" download "libstd-rust-dev=$wanted") ||
         fail "cannot fetch the package libstd-rust-dev $wanted for s390x"
@@ -100,8 +102,18 @@ archive() {
         port/archive.sh "$@"
 }
 
+# Whether an object is for the machine, and uses neither floating-point nor vector registers, which a hypervisor would have to save.
+fits_machine() {
+    ${cross}readelf -h "$1" | grep -q 'Machine: .*S/390' && ${cross}readelf -h "$1" | grep -q 'big endian' &&
+        [ "$(${cross}objdump -d "$1" | grep -c '%[fv][0-9]')" = 0 ]
+}
+
+# The C example over an installed copy of the archive in a folder.
 example() {
-    ${cross}gcc -std=c11 -Wall -Wextra -pedantic -Werror -O2 -static -Iinclude -o "$2" example-c/guests.c "$1/libzokormendu.a"
+    local copy=$here/$1/installed
+    make --no-print-directory install ARCHIVE="$1/libzokormendu.a" PREFIX="$copy" LIBDIR="$copy/lib" DESTDIR= &&
+        ${cross}gcc -std=c11 -Wall -Wextra -pedantic -Werror -O2 -static -I"$copy/include" -o "$1/guests" example-c/guests.c \
+            -L"$copy/lib" -lzokormendu
 }
 
 build_outside() {
@@ -130,12 +142,19 @@ control() {
     [ "$(grep -cF "$from" "$copy/$file")" = 1 ] || fail "control, $name: no such line in $file"
     text=$(<"$copy/$file")
     echo "${text/"$from"/"$to"}" >"$copy/$file"
-    quietly archive "$copy" "$out" checked && quietly example "$out" "$out/guests" || fail "control, $name: not built"
+    quietly archive "$copy" "$out" checked && quietly example "$out" || fail "control, $name: not built"
     # in a shell of its own, which reports the signal to the log
     bash -c 'qemu-s390x "$1"; exit $?' - "$out/guests" >"$work/log" 2>&1
     status=$?
     # 128 and SIGILL or SIGTRAP
     [ $status = 132 ] || [ $status = 133 ] || fail "control, $name: not stopped, exit status $status"
+}
+
+# How far an outside test is.
+progress() {
+    local steps
+    steps=$(grep -oE '[0-9]+ steps' "$work/outside.$1" | tail -n 1)
+    echo -n "$1 ${steps% steps}, "
 }
 
 hash_of() {
@@ -144,21 +163,25 @@ hash_of() {
 
 # The outside test over the kit's archive and over both archives for s390x, side by side.
 outside() {
-    local build name pids=() names=(x86-64 "${builds[@]}")
+    local build name shown=$SECONDS pids=() names=(x86-64 "${builds[@]}")
+    trap 'kill $(jobs -p) 2>/dev/null' EXIT
     target/outside/outside "$SEED" 100000 "$STEPS" >"$work/outside.x86-64" 2>&1 & pids+=($!)
     for build in "${builds[@]}"; do
         qemu-s390x "$work/$build/outside" "$SEED" 100000 "$STEPS" >"$work/outside.$build" 2>&1 & pids+=($!)
     done
     while [ -n "$(jobs -r)" ]; do
         sleep 1
-        [ $((SECONDS % 20)) = 0 ] || continue
-        say "outside: $(for name in "${names[@]}"; do echo -n "$name $(grep -o '[0-9]* steps' "$work/outside.$name" | tail -n 1); "; done)of $STEPS"
+        [ $((SECONDS - shown)) -ge 20 ] || continue
+        shown=$SECONDS
+        say "outside: $(for name in "${names[@]}"; do progress "$name"; done)of $STEPS steps"
     done
     for name in "${!names[@]}"; do
         wait "${pids[$name]}" || { tail -n 5 "$work/outside.${names[$name]}"; fail "the outside test, ${names[$name]}"; }
         [ "$(tail -n 1 "$work/outside.${names[$name]}")" = "nothing differs" ] || fail "the outside test, ${names[$name]}"
-        [ "$(hash_of "$work/outside.${names[$name]}")" = "$(hash_of "$work/outside.x86-64")" ] ||
-            fail "the outside test, ${names[$name]}: another hash"
+    done
+    [ -n "$(hash_of "$work/outside.x86-64")" ] || fail "the outside test: no hash"
+    for build in "${builds[@]}"; do
+        [ "$(hash_of "$work/outside.$build")" = "$(hash_of "$work/outside.x86-64")" ] || fail "the outside test, $build: another hash"
     done
 }
 
@@ -170,7 +193,10 @@ run_tests() {
     mkdir -p "$work/programs"
 
     say "translating"
-    port/translate.py "$work/source/library" | tee "$work/report" || fail "the library is not translated"
+    port/translate_test.py | tee "$work/report" || fail "the translator"
+    port/translate.py "$work/source/library" | tee -a "$work/report" || fail "the library is not translated"
+    port/translate.py "$work/source/again" >/dev/null && diff -r "$work/source/library" "$work/source/again" ||
+        fail "translated once more, the library is another"
     local programs=()
     for file in crates/*/src/main.rt; do
         name=$(basename "$(dirname "$(dirname "$file")")")
@@ -181,10 +207,10 @@ run_tests() {
     for build in "${builds[@]}"; do
         say "building $build/libzokormendu.a"
         archive "$work/source/library" "$work/$build" "$build" | tee -a "$work/report" || fail "$build/libzokormendu.a is not built"
-        quietly example "$work/$build" "$work/$build/guests" || fail "the C example is not built"
+        fits_machine "$work/$build/zokormendu.o" || fail "$build/libzokormendu.a has what it should not have"
+        quietly example "$work/$build" || fail "the C example is not built"
         quietly build_outside "$work/$build" || fail "the outside test is not built"
     done
-    ${cross}readelf -h "$work/checked/zokormendu.o" | grep -q 'big endian' || fail "not big endian"
 
     say "the C example"
     for build in "${builds[@]}"; do
@@ -198,12 +224,13 @@ run_tests() {
     say "controls: a copy with a line changed, which a check must stop"
     control "an index" digits.rs 'if s[n - 1] ==' 'if s[n] =='
     control "an overflow" digits.rs "return c - b'0';" "return c - b'9';"
-    say "the outside test over three archives, some five minutes"
+    say "the outside test over three archives: some five minutes for a million steps"
     outside
 
     echo
     say "report"
     sed 's/^/  /' "$work/report"
+    echo "  both: big-endian, no floating-point or vector register"
     echo "  C example: checked and unchecked agree with the expected output"
     echo "  programs: ${programs[*]} agree with their stored output, with overflow checks on and off"
     echo "  controls: an index past the end and an overflow are stopped by a check"
