@@ -56,6 +56,7 @@ VERSION = $(shell sed -n 's/^.define ZK_VERSION_STRING "\(.*\)"/\1/p' include/zo
 
 install: $(ARCHIVE)
 	@for path in "$(PREFIX)" "$(LIBDIR)"; do case "$$path" in /*) ;; *) echo "no absolute path: $$path"; exit 1 ;; esac; done
+	@mkdir -p target
 	install -d "$(DESTDIR)$(PREFIX)/include" "$(DESTDIR)$(LIBDIR)/pkgconfig"
 	install -m 644 include/zokormendu.h "$(DESTDIR)$(PREFIX)/include/zokormendu.h"
 	install -m 644 "$(ARCHIVE)" "$(DESTDIR)$(LIBDIR)/libzokormendu.a"
@@ -93,14 +94,16 @@ target/outside/outside: $(LIB) outside/outside.rs outside/header.c include/zokor
 	ar rcs target/outside/libheader.a target/outside/header.o
 	rustc --edition 2021 -O -L native=target/outside -l static=header $(LINK) -o target/outside/outside outside/outside.rs
 
-# The library beside an ordinary Rust program, for speed; and, with names of its own, what rustc makes of the same source.
-# Functions of the program begin at multiples of 64, so that its times do not hang on where the linker puts them.
+# The library beside an ordinary Rust program, for speed; and what rustc makes of the same source, unchecked or checked, with names of
+# its own. Functions of the program begin at multiples of 64, so that its times hang less on where the linker puts them.
+BUILD = unchecked
+
 bench: library
 	@mkdir -p target/bench
 	port/translate.py target/bench/source
-	port/archive.sh target/bench/source target/bench/unchecked unchecked
-	nm -g --defined-only target/bench/unchecked/zokormendu.o | awk '{n = $$3; sub(/^zk/, "port", n); print $$3, n}' >target/bench/names
-	objcopy --redefine-syms=target/bench/names target/bench/unchecked/libzokormendu.a target/bench/libport.a
+	port/archive.sh target/bench/source target/bench/$(BUILD) $(BUILD)
+	nm -g --defined-only target/bench/$(BUILD)/zokormendu.o | awk '{n = $$3; sub(/^zk/, "port", n); print $$3, n}' >target/bench/names
+	objcopy --redefine-syms=target/bench/names target/bench/$(BUILD)/libzokormendu.a target/bench/libport.a
 	rustc --edition 2021 -C opt-level=3 -C llvm-args=-align-all-functions=6 $(LINK) -L native=target/bench -l static=port \
 	    -o target/bench/bench bench/bench.rs
 	target/bench/bench
@@ -115,18 +118,23 @@ s390x:
 	@$(MAKE) --no-print-directory target/outside/outside
 	@SEED=$(SEED) STEPS=$(STEPS) port/s390x.sh test
 
-target/s390x/%/libzokormendu.a:
-	@echo "no $@: make s390x makes it"; exit 1
+# Older than what it is made of, or not there.
+target/s390x/%/libzokormendu.a: $(shell find crates.txt crates port include outside example-c -type f)
+	@echo "$@ is not there, or older than its sources: make s390x makes it"; exit 1
 
-# The translation beside its source, crate by crate, and the shims, which have none. CRATES="mask rules" shows these alone.
+# The translation beside its source, crate by crate, and last the shims, which have none. CRATES="mask rules" shows these alone.
 CRATES = $(shell sed -n 's/^\([a-z_]*\):.*/\1/p' crates.txt) lib
 
 s390x-diff:
-	@port/translate.py target/s390x/diff
+	@rm -rf target/s390x/diff
+	@port/translate.py target/s390x/diff/library
+	@for f in crates/*/src/main.rt; do f=$${f#crates/}; f=$${f%%/*}; port/translate.py target/s390x/diff/$$f $$f || exit 1; done
 	@for c in $(CRATES); do \
-	    [ -e target/s390x/diff/$$c.rs ] || continue; \
-	    source=crates/$$c/src/lib.rt; \
-	    if [ -e $$source ]; then echo; echo "$$source"; else source=/dev/null; echo; echo "modules and shims"; fi; \
-	    diff -U 1 $$source target/s390x/diff/$$c.rs | tail -n +3; \
+	    new=target/s390x/diff/library/$$c.rs; \
+	    [ -e $$new ] || new=$$(ls target/s390x/diff/*/$$c.rs 2>/dev/null | head -n 1); \
+	    [ -n "$$new" ] || { echo "no crate $$c"; exit 1; }; \
+	    old=$$(ls crates/$$c/src/*.rt 2>/dev/null || echo /dev/null); \
+	    echo; echo "$$old, $$new"; \
+	    diff -U 1 $$old $$new | tail -n +3; \
 	    [ $${PIPESTATUS[0]} -lt 2 ] || exit 1; \
 	done

@@ -4,7 +4,7 @@
 #     port/s390x.sh tools    installs what is needed
 #     port/s390x.sh test     translates, builds, tests, and prints a report
 #
-# SEED and STEPS are those of the outside test, which is also run over the kit's archive, as target/outside/outside.
+# SEED and STEPS are those of the outside test. Over the kit's archive that is target/outside/outside.
 set -u -o pipefail
 cd "$(dirname "$0")/.." || exit 1
 export PYTHONDONTWRITEBYTECODE=1
@@ -102,47 +102,54 @@ archive() {
         port/archive.sh "$@"
 }
 
-# Whether an object is for the machine, and uses neither floating-point nor vector registers, which a hypervisor would have to save.
+# Whether the object in a folder is for the machine, and uses neither floating-point nor vector registers, which a
+# hypervisor would have to save.
 fits_machine() {
-    ${cross}readelf -h "$1" | grep -q 'Machine: .*S/390' && ${cross}readelf -h "$1" | grep -q 'big endian' &&
-        [ "$(${cross}objdump -d "$1" | grep -c '%[fv][0-9]')" = 0 ]
+    ${cross}readelf -h "$1/zokormendu.o" >"$1/elf" && grep -q 'Machine: .*S/390' "$1/elf" && grep -q 'big endian' "$1/elf" &&
+        ${cross}objdump -d "$1/zokormendu.o" >"$1/code" && grep -q '<zk_raw_fresh>:' "$1/code" && ! grep -q '%[fv][0-9]' "$1/code"
 }
 
 # The C example over an installed copy of the archive in a folder.
 example() {
     local copy=$here/$1/installed
-    make --no-print-directory install ARCHIVE="$1/libzokormendu.a" PREFIX="$copy" LIBDIR="$copy/lib" DESTDIR= &&
+    make --no-print-directory install ARCHIVE="$here/$1/libzokormendu.a" PREFIX="$copy" LIBDIR="$copy/lib" DESTDIR= &&
         ${cross}gcc -std=c11 -Wall -Wextra -pedantic -Werror -O2 -static -I"$copy/include" -o "$1/guests" example-c/guests.c \
             -L"$copy/lib" -lzokormendu
 }
 
+# The outside test over the archive in a folder, by a C compiler, its ar, and rustc with its options.
 build_outside() {
-    ${cross}gcc -std=c11 -Wall -Wextra -pedantic -Werror -O2 -Iinclude -c -o "$1/header.o" outside/header.c &&
-        ${cross}ar rcs "$1/libheader.a" "$1/header.o" &&
-        rust --edition 2021 -C opt-level=3 -L native="$1" -l static=header -l static=zokormendu -o "$1/outside" \
+    local folder=$1 cc=$2 ar=$3
+    shift 3
+    "$cc" -std=c11 -Wall -Wextra -pedantic -Werror -O2 -Iinclude -c -o "$folder/header.o" outside/header.c &&
+        "$ar" rcs "$folder/libheader.a" "$folder/header.o" &&
+        "$@" --edition 2021 -C opt-level=3 -L native="$folder" -l static=header -l static=zokormendu -o "$folder/outside" \
             outside/outside.rs
 }
 
-# A program of the gate, with overflow checks on or off, held to its stored output.
+# A program of the gate, held to its stored output: not optimised and so with every check, and without overflow checks.
 program() {
-    local name=$1 checks=$2 out=$work/programs/$1-$2 input=crates/$1/stdin
+    local name=$1 out=$tests/$1 input=crates/$1/stdin way
     [ -e "$input" ] || input=/dev/null
-    quietly rust --edition 2021 -C opt-level=3 -C panic=abort -C overflow-checks="$checks" -o "$out" \
-        "$work/source/$name/main.rs" || fail "the program $name does not compile"
-    qemu-s390x "$out" <"$input" >"$out.out" || fail "the program $name, overflow checks $checks: exit status $?"
-    cmp "$out.out" "crates/$name/stdout" || fail "the program $name, overflow checks $checks: another output"
+    for way in "-C opt-level=0 -C overflow-checks=on" "-C opt-level=3 -C overflow-checks=off"; do
+        # shellcheck disable=SC2086
+        quietly rust --edition 2021 $way -C panic=abort -o "$out" "$work/source/$name/main.rs" || fail "the program $name does not compile"
+        qemu-s390x "$out" <"$input" >"$out.out" || fail "the program $name, $way: exit status $?"
+        cmp "$out.out" "crates/$name/stdout" || fail "the program $name, $way: another output"
+    done
 }
 
-# A copy of the source with one line changed so that a check must fail: what is seen if the proofs are wrong. The C example
-# over it must be stopped by the trap.
+# A copy of the source with one line changed so that a check must fail: what is seen if a proof is wrong. The C example over
+# it must be stopped by the trap.
 control() {
-    local name=$1 file=$2 from=$3 to=$4 copy=$work/source/control out=$work/control text status
+    local name=$1 file=$2 from=$3 to=$4 copy=$work/source/control out=$tests/control text status
     rm -rf "$copy"
     cp -r "$work/source/library" "$copy"
     [ "$(grep -cF "$from" "$copy/$file")" = 1 ] || fail "control, $name: no such line in $file"
     text=$(<"$copy/$file")
     echo "${text/"$from"/"$to"}" >"$copy/$file"
-    quietly archive "$copy" "$out" checked && quietly example "$out" || fail "control, $name: not built"
+    quietly archive "$copy" "$out" checked || fail "control, $name: not built"
+    quietly example "$out" || fail "control, $name: not built"
     # in a shell of its own, which reports the signal to the log
     bash -c 'qemu-s390x "$1"; exit $?' - "$out/guests" >"$work/log" 2>&1
     status=$?
@@ -153,51 +160,51 @@ control() {
 # How far an outside test is.
 progress() {
     local steps
-    steps=$(grep -oE '[0-9]+ steps' "$work/outside.$1" | tail -n 1)
+    steps=$(grep -oE '[0-9]+ steps' "$tests/$1.log" | tail -n 1)
     echo -n "$1 ${steps% steps}, "
 }
 
 hash_of() {
-    sed -n 's/^hash over .*: //p' "$1"
+    sed -n 's/^hash over .*: //p' "$tests/$1.log"
 }
 
-# The outside test over the kit's archive and over both archives for s390x, side by side.
+# The outside test, side by side: over the kit's archive, over the plain one for this machine, and over those for s390x.
 outside() {
-    local build name shown=$SECONDS pids=() names=(x86-64 "${builds[@]}")
+    local name i shown=$SECONDS pids=()
     trap 'kill $(jobs -p) 2>/dev/null' EXIT
-    target/outside/outside "$SEED" 100000 "$STEPS" >"$work/outside.x86-64" 2>&1 & pids+=($!)
-    for build in "${builds[@]}"; do
-        qemu-s390x "$work/$build/outside" "$SEED" 100000 "$STEPS" >"$work/outside.$build" 2>&1 & pids+=($!)
+    target/outside/outside "$SEED" 100000 "$STEPS" >"$tests/kit.log" 2>&1 & pids+=($!)
+    "$tests/plain/outside" "$SEED" 100000 "$STEPS" >"$tests/plain.log" 2>&1 & pids+=($!)
+    for name in "${builds[@]}"; do
+        qemu-s390x "$tests/$name/outside" "$SEED" 100000 "$STEPS" >"$tests/$name.log" 2>&1 & pids+=($!)
     done
     while [ -n "$(jobs -r)" ]; do
         sleep 1
         [ $((SECONDS - shown)) -ge 20 ] || continue
         shown=$SECONDS
-        say "outside: $(for name in "${names[@]}"; do progress "$name"; done)of $STEPS steps"
+        say "outside: $(for name in "${runs[@]}"; do progress "$name"; done)of $STEPS steps"
     done
-    for name in "${!names[@]}"; do
-        wait "${pids[$name]}" || { tail -n 5 "$work/outside.${names[$name]}"; fail "the outside test, ${names[$name]}"; }
-        [ "$(tail -n 1 "$work/outside.${names[$name]}")" = "nothing differs" ] || fail "the outside test, ${names[$name]}"
-    done
-    [ -n "$(hash_of "$work/outside.x86-64")" ] || fail "the outside test: no hash"
-    for build in "${builds[@]}"; do
-        [ "$(hash_of "$work/outside.$build")" = "$(hash_of "$work/outside.x86-64")" ] || fail "the outside test, $build: another hash"
+    for i in "${!runs[@]}"; do
+        name=${runs[$i]}
+        wait "${pids[$i]}" || { tail -n 5 "$tests/$name.log"; fail "the outside test, $name"; }
+        [ "$(tail -n 1 "$tests/$name.log")" = "nothing differs" ] || fail "the outside test, $name"
+        [ -n "$(hash_of "$name")" ] || fail "the outside test, $name: no hash"
+        [ "$(hash_of "$name")" = "$(hash_of kit)" ] || fail "the outside test, $name: another hash"
     done
 }
 
 run_tests() {
-    local build name file
+    local build name file programs=() tests=$work/tests runs=(kit plain "${builds[@]}") rustc
     rustc=$(dpkg -L rustc | grep '/bin/rustc$') || fail "no rustc in the package rustc"
     [ -e target/outside/outside ] || fail "no target/outside/outside: make s390x makes it"
-    rm -rf "$work/source" "$work/programs"
-    mkdir -p "$work/programs"
+    # an archive that is there has passed all of it
+    rm -rf "$work/source" "$tests" "${builds[@]/#/$work/}"
+    mkdir -p "$tests"
 
     say "translating"
-    port/translate_test.py | tee "$work/report" || fail "the translator"
-    port/translate.py "$work/source/library" | tee -a "$work/report" || fail "the library is not translated"
-    port/translate.py "$work/source/again" >/dev/null && diff -r "$work/source/library" "$work/source/again" ||
-        fail "translated once more, the library is another"
-    local programs=()
+    port/translate_test.py | tee "$tests/report" || fail "the translator"
+    port/translate.py "$work/source/library" | tee -a "$tests/report" || fail "the library is not translated"
+    port/translate.py "$work/source/again" >"$work/log" || fail "the library is not translated again"
+    diff -r "$work/source/library" "$work/source/again" || fail "translated once more, the library is another"
     for file in crates/*/src/main.rt; do
         name=$(basename "$(dirname "$(dirname "$file")")")
         programs+=("$name")
@@ -205,41 +212,57 @@ run_tests() {
     done
 
     for build in "${builds[@]}"; do
-        say "building $build/libzokormendu.a"
-        archive "$work/source/library" "$work/$build" "$build" | tee -a "$work/report" || fail "$build/libzokormendu.a is not built"
-        fits_machine "$work/$build/zokormendu.o" || fail "$build/libzokormendu.a has what it should not have"
-        quietly example "$work/$build" || fail "the C example is not built"
-        quietly build_outside "$work/$build" || fail "the outside test is not built"
+        say "building the $build archive"
+        archive "$work/source/library" "$tests/$build" "$build" | tee -a "$tests/report" || fail "the $build archive is not built"
+        fits_machine "$tests/$build" || fail "the $build archive is for another machine, or uses registers that it should not"
+        quietly example "$tests/$build" || fail "the C example is not built"
+        quietly build_outside "$tests/$build" ${cross}gcc ${cross}ar rust || fail "the outside test is not built"
     done
+    say "building the plain archive, for this machine"
+    RUSTC=$rustc quietly port/archive.sh "$work/source/library" "$tests/plain" plain || fail "the plain archive is not built"
+    quietly build_outside "$tests/plain" cc ar "$rustc" || fail "the outside test is not built"
 
     say "the C example"
     for build in "${builds[@]}"; do
-        qemu-s390x "$work/$build/guests" | cmp - example-c/guests.expected || fail "the C example, $build: another output"
+        qemu-s390x "$tests/$build/guests" | cmp - example-c/guests.expected || fail "the C example, $build: another output"
     done
     say "the programs of the gate: ${programs[*]}"
     for name in "${programs[@]}"; do
-        program "$name" on
-        program "$name" off
+        program "$name"
     done
     say "controls: a copy with a line changed, which a check must stop"
-    control "an index" digits.rs 'if s[n - 1] ==' 'if s[n] =='
+    control "an index" number.rs 'while i < s.len() {' 'while i <= s.len() {'
     control "an overflow" digits.rs "return c - b'0';" "return c - b'9';"
-    say "the outside test over three archives: some five minutes for a million steps"
+    say "the outside test, four at a time: some seven minutes for a million steps"
     outside
+    for build in "${builds[@]}"; do
+        mkdir -p "$work/$build"
+        cp "$tests/$build/libzokormendu.a" "$work/$build/libzokormendu.a" || fail "cannot copy"
+    done
 
     echo
     say "report"
-    sed 's/^/  /' "$work/report"
-    echo "  both: big-endian, no floating-point or vector register"
-    echo "  C example: checked and unchecked agree with the expected output"
-    echo "  programs: ${programs[*]} agree with their stored output, with overflow checks on and off"
+    sed 's/^/  /' "$tests/report"
+    echo "  both for s390x, big-endian, without floating-point and vector registers"
+    echo "  C example: as expected, checked and unchecked"
+    echo "  programs: ${programs[*]}: as stored, with every check, and without overflow checks"
     echo "  controls: an index past the end and an overflow are stopped by a check"
     echo "  outside: seed $SEED, $STEPS steps, nothing differs; hash over all answers and all memory:"
-    for name in x86-64 "${builds[@]}"; do
-        echo "    $(hash_of "$work/outside.$name") $name, $(sed -n 's/^seed .* steps in //p' "$work/outside.$name")"
+    for name in "${runs[@]}"; do
+        echo "    $(hash_of "$name")  $(describe "$name"), $(sed -n 's/^seed .* steps in //p' "$tests/$name.log")"
     done
-    echo "  archives: target/s390x/checked/libzokormendu.a and target/s390x/unchecked/libzokormendu.a"
+    for build in "${builds[@]}"; do
+        echo "  $work/$build/libzokormendu.a"
+    done
     say "all agree"
+}
+
+describe() {
+    case $1 in
+    kit) echo "x86-64, the kit's archive" ;;
+    plain) echo "x86-64, the translation with every check" ;;
+    *) echo "s390x, $1" ;;
+    esac
 }
 
 case ${1:-} in

@@ -4,7 +4,7 @@
     translate.py OUT            the library: OUT/lib.rs, a module for each crate, and a shim for each export
     translate.py OUT PROGRAM    a program of the gate: OUT/main.rs, and a module for each crate that it rests on
 
-What a function does is written as Rust has it already. So a line is copied as it is, unless it has one of six forms:
+The code of a Rattle function is a Rust function's code. So a line is copied as it is, unless it has one of six forms:
 
     ghost use ...;                       dropped
     requires { ⌜ ... ⌝ }                 dropped, where it stands between the head and the body of a function
@@ -13,8 +13,12 @@ What a function does is written as Rust has it already. So a line is copied as i
     struct ... and enum ...              #[derive(Clone, Copy)] goes before it
     fn main() {                          gets a pub, since a program is a module too
 
-A line of none of these forms that has a word or a sign of a specification, or that is not plain code, stops the
-translation. So a line that is missing from the output has one of the first four forms; the lines are counted.
+A line `use crate::{...};` goes before the first, with the crates that are named.
+
+A line of another form that has a word or a sign of a specification, or something else that is on the list STRANGE, stops
+the translation; so do comments and strings that run over lines, but for strings whose lines end in a backslash, which are
+copied. What is neither of these is copied, and rustc judges it. So nothing is missing from the output but lines of the first
+four forms.
 """
 
 import collections
@@ -34,13 +38,14 @@ MAIN = "fn main() {"
 USE = re.compile(r"use (\w+)::(\w+);")
 # what a line that is copied must not have, beside what is not ASCII
 STRANGE = re.compile(
-    r"\b(ghost|requires|ensures|invariant|decreases|assert\w*|assume\w*|unsafe|extern|static|mod|trait)\b|#!?\[|!\("
+    r"\b(ghost|requires|ensures|invariant|decreases|assert\w*|assume\w*|unsafe|extern|static|mod|trait)\b"
+    r'|#!?\[|!\(|\bb?r#*"'
 )
 
 LIBRARY_HEAD = """\
 // Made by port/translate.py from the crates of Zokormendu.
 #![no_std]
-#![deny(unsafe_code)]
+#![deny(unsafe_code, improper_ctypes_definitions)]
 #![allow(dead_code, unused_variables, unknown_lints, unexpected_cfgs)]
 """
 
@@ -89,10 +94,31 @@ def is_comment(line):
     return line.lstrip().startswith("//")
 
 
+def string_open(line, is_open):
+    """Whether a string is open at the end of a line, or None where that is not plain. Told whether one is at its start."""
+    rest = line
+    while rest:
+        if is_open:
+            part = re.match(r'(\\.|[^"\\])+', rest) or re.match(r'"', rest)
+            # a backslash at the end of the line
+            if not part:
+                return True
+            is_open = part[0] != '"'
+        else:
+            part = re.match(r"//.*", rest) or re.match(r"b?'(\\.|[^'\\])'", rest) or re.match(r"(?!/\*|\*/)[^']", rest)
+            # a comment over lines, a lifetime
+            if not part:
+                return None
+            is_open = part[0] == '"'
+        rest = rest[part.end() :]
+    return None if is_open else False
+
+
 def translate(path, lines, counts):
     """The lines of a crate in Rust, and the heads of its exports."""
     out, exports = [], []
     head = None  # the indentation of a function of which the head is read and the body is not
+    in_string = False
     i = 0
 
     def strange(why):
@@ -101,6 +127,13 @@ def translate(path, lines, counts):
     while i < len(lines):
         line = lines[i]
         i += 1
+        if in_string:
+            in_string = string_open(line, True)
+            if in_string is None or not line.isascii():
+                raise strange("a string that is not plain")
+            counts["lines copied"] += 1
+            out.append(line)
+            continue
         contract = CONTRACT.fullmatch(line)
         if contract:
             if head is None or contract[1] != head + "    ":
@@ -144,15 +177,16 @@ def translate(path, lines, counts):
                 counts["lines of derive added"] += 1
                 out.append("#[derive(Clone, Copy)]")
         if not is_comment(line):
-            if not line.isascii() or STRANGE.search(line):
+            in_string = string_open(line, False)
+            if in_string is None or not line.isascii() or STRANGE.search(line):
                 raise strange("a form that is not known")
             # a call can end as a head does, but is not followed by a contract or a body
             end = HEAD_END.fullmatch(line)
             if end and i < len(lines) and (CONTRACT.fullmatch(lines[i]) or lines[i] == end[1] + "{"):
                 head = end[1]
         out.append(line)
-    if head is not None:
-        raise Strange(f"{path}: a function without a body")
+    if head is not None or in_string:
+        raise Strange(f"{path}: a function without a body, or a string without an end")
     return out, exports
 
 
@@ -164,9 +198,10 @@ def read_head(path, lines):
         if HEAD_END.fullmatch(line):
             break
     form = re.fullmatch(r'pub extern "C" fn (\w+)\((.*?),?\)( -> u8| -> u32| -> usize)?', text)
-    if not form:
+    parameters = [re.fullmatch(r" *(\w+): (.+)", parameter) for parameter in form[2].split(",")] if form else [None]
+    if None in parameters:
         raise Strange(f"{path}: the head of an export that is not known:\n    {text}")
-    return form[1], [parameter.strip().split(": ") for parameter in form[2].split(",")], form[3] or ""
+    return form[1], [(parameter[1], parameter[2]) for parameter in parameters], form[3] or ""
 
 
 def full_type(where, kind, names):
@@ -256,7 +291,7 @@ def main(folder, program=None):
         of_kit = {name for name in crates if any(other not in crates for other in crates[name])}
         wanted = [name for name in crates if not of_kit & (below(crates, name) | {name})]
     os.makedirs(folder, exist_ok=True)
-    counts, seen, shims = collections.Counter(), 0, []
+    counts, seen, made, shims = collections.Counter(), 0, 0, []
     for name in wanted:
         source, file = f"crates/{name}/src", "main.rt" if name == program else "lib.rt"
         if os.listdir(source) != [file]:
@@ -264,6 +299,7 @@ def main(folder, program=None):
         lines = read_lines(f"{source}/{file}")
         seen += len(lines)
         code, exports = translate(f"{source}/{file}", lines, counts)
+        made += len(code)
         write(folder, f"{name}.rs", imports(crates[name], code) + code)
         names = {use[2]: f"{use[1]}::{use[2]}" for use in map(USE.fullmatch, code) if use}
         for export in exports:
@@ -275,7 +311,8 @@ def main(folder, program=None):
     else:
         modules = [f"#[forbid(unsafe_code)] mod {name};" for name in wanted]
         write(folder, "lib.rs", [LIBRARY_HEAD, *modules, SHIMS_HEAD.rstrip(), *shims, "}"])
-    if seen != sum(n for what, n in counts.items() if not what.endswith("added")):
+    total = {end: sum(n for what, n in counts.items() if what.endswith(end)) for end in ("dropped", "added")}
+    if made != seen - total["dropped"] + total["added"]:
         raise Strange("lines that are neither copied nor changed nor dropped")
     parts = ", ".join(f"{n} {what}" for what, n in sorted(counts.items()))
     print(f"{program or 'library'}: {len(wanted)} crates, {seen} lines: {parts}")

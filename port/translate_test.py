@@ -24,6 +24,10 @@ GOOD = {
         "pub fn f(x: u8) -> u8\n{\n    x\n}",
     ),
     "a program": ("fn main() {\n}", "pub fn main() {\n}"),
+    "a string over lines": (
+        'fn f() {\n    g(b"a\\\n        ghost use x;\\\nstruct S;\\"\\\n    b", b\'"\');\n}',
+        'fn f() {\n    g(b"a\\\n        ghost use x;\\\nstruct S;\\"\\\n    b", b\'"\');\n}',
+    ),
     "a comment": ("// ghost, unsafe, ⌜ and #[x]", "// ghost, unsafe, ⌜ and #[x]"),
 }
 
@@ -47,6 +51,13 @@ BAD = {
     "a contract on a head's line": "fn f() requires { ⌜ x ⌝ } {\n}",
     "another clause": "fn f()\n    decreases { n }\n{\n}",
     "a clause of a loop": "    while i < n\n        invariant { x }\n    {",
+    "a string that is open at the end of a line": '    g(b"a\\\nghost use x;\ncd");',
+    "a string that is not closed": '    g(b"ab\\',
+    "a raw string": '    g(br"a\\");',
+    "a comment over lines": "/*\nghost use a /* ;\n*/\npub fn f() {}\n// */",
+    "the end of a comment": "    ghost use z */ *x = 1;",
+    "a comment within a line": "    f(/* x */ y);",
+    "a lifetime": "fn f<'a>(x: &'a u8) {",
     "a sign in code": "    let x = y ≡ z;",
     "an attribute": "#[inline]\nfn f() {\n}",
     "an attribute of the file": "#![no_std]",
@@ -56,6 +67,8 @@ BAD = {
     "a macro": "    assert!(x);",
     "no_mangle elsewhere": "#[no_mangle]\npub fn f() {\n}",
     "an export without no_mangle": 'pub extern "C" fn f()\n{\n}',
+    "an export without parameters": '#[no_mangle]\npub extern "C" fn f() -> u8\n{\n}',
+    "a comment in an export's head": '#[no_mangle]\npub extern "C" fn f(\n    // x: u8,\n    y: u8,\n) -> u8\n{\n}',
     "an export of another result": '#[no_mangle]\npub extern "C" fn f(x: u8) -> Mask\n{\n}',
 }
 
@@ -77,11 +90,11 @@ def main():
             pass
     for kind in BAD_PARAMETERS:
         try:
-            shim("c_x", {"Words": "layout::Words"}, ("f", [["x", kind]], ""))
+            shim("c_x", {"Words": "layout::Words"}, ("f", [("x", kind)], ""))
             wrong.append(f"a parameter {kind}")
         except Strange:
             pass
-    made = "\n".join(shim("c_x", {"W": "l::W"}, ("f", [["w", "&mut W"], ["t", "&[u8]"], ["b", "&mut [u8]"]], " -> u8")))
+    made = "\n".join(shim("c_x", {"W": "l::W"}, ("f", [("w", "&mut W"), ("t", "&[u8]"), ("b", "&mut [u8]")], " -> u8")))
     if made != (
         '\n    #[no_mangle]\n    pub unsafe extern "C" fn f(\n        w: &mut l::W,\n        t: *const u8,\n'
         "        t_length: usize,\n        b: *mut u8,\n        b_length: usize,\n    ) -> u8 {\n"
