@@ -54,7 +54,7 @@ LIBDIR = $(PREFIX)/lib
 DESTDIR =
 VERSION = $(shell sed -n 's/^.define ZK_VERSION_STRING "\(.*\)"/\1/p' include/zokormendu.h)
 
-install: $(ARCHIVE)
+install: $(ARCHIVE:$(CURDIR)/%=%)
 	@for path in "$(PREFIX)" "$(LIBDIR)"; do case "$$path" in /*) ;; *) echo "no absolute path: $$path"; exit 1 ;; esac; done
 	@mkdir -p target
 	install -d "$(DESTDIR)$(PREFIX)/include" "$(DESTDIR)$(LIBDIR)/pkgconfig"
@@ -119,7 +119,7 @@ s390x:
 	@SEED=$(SEED) STEPS=$(STEPS) port/s390x.sh test
 
 # Older than what it is made of, or not there.
-target/s390x/%/libzokormendu.a: $(shell find crates.txt crates port include outside example-c -type f)
+target/s390x/%/libzokormendu.a: $(shell find crates.txt crates port include outside example-c -type f ! -name '*.pyc')
 	@echo "$@ is not there, or older than its sources: make s390x makes it"; exit 1
 
 # The translation beside its source, crate by crate, and last the shims, which have none. CRATES="mask rules" shows these alone.

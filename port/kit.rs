@@ -1,5 +1,5 @@
-//! The functions of the kit's libraries that the programs call, over Rust's standard library. They stand in for the kit's,
-//! whose C functions are declared for its own compiler. No crate of the library calls them.
+//! The functions of the kit's libraries that the programs call, over Rust's standard library. The kit's own rest on C functions
+//! that are declared for its compiler, and have forms that the translator does not know. No crate of the library calls them.
 
 pub mod bytes {
     pub mod scan {

@@ -46,6 +46,7 @@ as_root() {
 
 install_packages() {
     local package missing=()
+    command -v python3 >/dev/null || missing+=(python3)
     for package in "${packages[@]}"; do
         [ -n "$(version "$package")" ] || missing+=("$package")
     done
@@ -81,8 +82,8 @@ unpack_std() {
 tools() {
     local tool
     mkdir -p "$work"
-    for tool in apt-get dpkg-query dpkg-deb python3; do
-        command -v $tool >/dev/null || fail "no $tool: this needs Debian's package tools and Python 3"
+    for tool in apt-get dpkg dpkg-query dpkg-deb; do
+        command -v $tool >/dev/null || fail "no $tool: this needs Debian's package tools"
     done
     install_packages
     unpack_std
@@ -140,9 +141,9 @@ program() {
 }
 
 # A copy of the source with one line changed so that a check must fail: what is seen if a proof is wrong. The C example over
-# it must be stopped by the trap.
+# its checked archive, and the outside test over its plain one, must be stopped by the trap.
 control() {
-    local name=$1 file=$2 from=$3 to=$4 copy=$work/source/control out=$tests/control text status
+    local name=$1 file=$2 from=$3 to=$4 copy=$work/source/control out=$tests/control text
     rm -rf "$copy"
     cp -r "$work/source/library" "$copy"
     [ "$(grep -cF "$from" "$copy/$file")" = 1 ] || fail "control, $name: no such line in $file"
@@ -150,11 +151,16 @@ control() {
     echo "${text/"$from"/"$to"}" >"$copy/$file"
     quietly archive "$copy" "$out" checked || fail "control, $name: not built"
     quietly example "$out" || fail "control, $name: not built"
-    # in a shell of its own, which reports the signal to the log
-    bash -c 'qemu-s390x "$1"; exit $?' - "$out/guests" >"$work/log" 2>&1
-    status=$?
-    # 128 and SIGILL or SIGTRAP
-    [ $status = 132 ] || [ $status = 133 ] || fail "control, $name: not stopped, exit status $status"
+    trapped qemu-s390x "$out/guests" || fail "control, $name, checked: not stopped"
+    RUSTC=$rustc quietly port/archive.sh "$copy" "$out" plain || fail "control, $name: not built"
+    quietly build_outside "$out" cc ar "$rustc" || fail "control, $name: not built"
+    trapped "$out/outside" || fail "control, $name, plain: not stopped"
+}
+
+# Whether a program ends by SIGILL or SIGTRAP. It runs in a shell of its own, which reports the signal to the log.
+trapped() {
+    bash -c '"$@"; exit $?' - "$@" >"$work/log" 2>&1
+    case $? in 132 | 133) ;; *) return 1 ;; esac
 }
 
 # How far an outside test is.
@@ -162,6 +168,11 @@ progress() {
     local steps
     steps=$(grep -oE '[0-9]+ steps' "$tests/$1.log" | tail -n 1)
     echo -n "$1 ${steps% steps}, "
+}
+
+# Of an outside test that has ended.
+ended_well() {
+    [ "$(tail -n 1 "$tests/$1.log")" = "nothing differs" ] || { tail -n 5 "$tests/$1.log"; fail "the outside test, $1"; }
 }
 
 hash_of() {
@@ -179,14 +190,17 @@ outside() {
     done
     while [ -n "$(jobs -r)" ]; do
         sleep 1
+        for i in "${!runs[@]}"; do
+            kill -0 "${pids[$i]}" 2>/dev/null || ended_well "${runs[$i]}"
+        done
         [ $((SECONDS - shown)) -ge 20 ] || continue
         shown=$SECONDS
         say "outside: $(for name in "${runs[@]}"; do progress "$name"; done)of $STEPS steps"
     done
     for i in "${!runs[@]}"; do
         name=${runs[$i]}
-        wait "${pids[$i]}" || { tail -n 5 "$tests/$name.log"; fail "the outside test, $name"; }
-        [ "$(tail -n 1 "$tests/$name.log")" = "nothing differs" ] || fail "the outside test, $name"
+        wait "${pids[$i]}" || fail "the outside test, $name: exit status $?"
+        ended_well "$name"
         [ -n "$(hash_of "$name")" ] || fail "the outside test, $name: no hash"
         [ "$(hash_of "$name")" = "$(hash_of kit)" ] || fail "the outside test, $name: another hash"
     done
@@ -196,9 +210,10 @@ run_tests() {
     local build name file programs=() tests=$work/tests runs=(kit plain "${builds[@]}") rustc
     rustc=$(dpkg -L rustc | grep '/bin/rustc$') || fail "no rustc in the package rustc"
     [ -e target/outside/outside ] || fail "no target/outside/outside: make s390x makes it"
-    # an archive that is there has passed all of it
+    # an archive that is there has passed all of it, and is as old as the sources that were read
     rm -rf "$work/source" "$tests" "${builds[@]/#/$work/}"
     mkdir -p "$tests"
+    touch "$tests/begin"
 
     say "translating"
     port/translate_test.py | tee "$tests/report" || fail "the translator"
@@ -235,10 +250,13 @@ run_tests() {
     control "an overflow" digits.rs "return c - b'0';" "return c - b'9';"
     say "the outside test, four at a time: some seven minutes for a million steps"
     outside
-    for build in "${builds[@]}"; do
-        mkdir -p "$work/$build"
-        cp "$tests/$build/libzokormendu.a" "$work/$build/libzokormendu.a" || fail "cannot copy"
-    done
+    if [ "$STEPS" -ge 1000000 ]; then
+        for build in "${builds[@]}"; do
+            mkdir -p "$work/$build"
+            touch -r "$tests/begin" "$tests/$build/libzokormendu.a"
+            cp -p "$tests/$build/libzokormendu.a" "$work/$build/libzokormendu.a" || fail "cannot copy the $build archive"
+        done
+    fi
 
     echo
     say "report"
@@ -247,13 +265,14 @@ run_tests() {
     echo "  C example: as expected, checked and unchecked"
     echo "  programs: ${programs[*]}: as stored, with every check, and without overflow checks"
     echo "  controls: an index past the end and an overflow are stopped by a check"
-    echo "  outside: seed $SEED, $STEPS steps, nothing differs; hash over all answers and all memory:"
+    echo "  outside: nothing differs; hash over all answers and all memory:"
     for name in "${runs[@]}"; do
-        echo "    $(hash_of "$name")  $(describe "$name"), $(sed -n 's/^seed .* steps in //p' "$tests/$name.log")"
+        echo "    $(hash_of "$name")  $(describe "$name"), $(grep '^seed ' "$tests/$name.log")"
     done
     for build in "${builds[@]}"; do
-        echo "  $work/$build/libzokormendu.a"
+        [ ! -e "$work/$build" ] || echo "  $work/$build/libzokormendu.a"
     done
+    [ "$STEPS" -ge 1000000 ] || echo "  no archives, as there were fewer than a million steps"
     say "all agree"
 }
 

@@ -15,10 +15,10 @@ The code of a Rattle function is a Rust function's code. So a line is copied as 
 
 A line `use crate::{...};` goes before the first, with the crates that are named.
 
-A line of another form that has a word or a sign of a specification, or something else that is on the list STRANGE, stops
-the translation; so do comments and strings that run over lines, but for strings whose lines end in a backslash, which are
-copied. What is neither of these is copied, and rustc judges it. So nothing is missing from the output but lines of the first
-four forms.
+A line of code of another form stops the translation where it has a word or a sign of a specification, or something else
+that is on the list STRANGE, or a comment or a string that runs over its end. Only a string whose line ends in a backslash may go
+on; the lines within it, and comments, are copied whatever they have. What is left is copied too, and rustc judges it. So
+nothing is missing from the output but lines of the first four forms.
 """
 
 import collections
@@ -36,7 +36,12 @@ EXPORT = re.compile(r'pub extern "C" (fn \w+\(.*)')
 TYPE = re.compile(r"(pub )?(struct|enum) \w+.*")
 MAIN = "fn main() {"
 USE = re.compile(r"use (\w+)::(\w+);")
-# what a line that is copied must not have, beside what is not ASCII
+# the lines of a string after its first: those that go on, and the last, after which nothing but this may come
+STRING_MORE = re.compile(r'(\\.|[^"\\])*\\')
+STRING_END = re.compile(r'(\\.|[^"\\])*"[),;]*')
+# the kit's libraries: what rests on them is for programs
+KIT = {"std", "check", "libc", "io", "os", "bytes"}
+# what a line of code that is copied must not have, beside what is not ASCII
 STRANGE = re.compile(
     r"\b(ghost|requires|ensures|invariant|decreases|assert\w*|assume\w*|unsafe|extern|static|mod|trait)\b"
     r'|#!?\[|!\(|\bb?r#*"'
@@ -94,24 +99,21 @@ def is_comment(line):
     return line.lstrip().startswith("//")
 
 
-def string_open(line, is_open):
-    """Whether a string is open at the end of a line, or None where that is not plain. Told whether one is at its start."""
+def string_open(line):
+    """Whether a string is open at the end of a line that begins outside of one; None where that is not plain."""
     rest = line
     while rest:
-        if is_open:
-            part = re.match(r'(\\.|[^"\\])+', rest) or re.match(r'"', rest)
-            # a backslash at the end of the line
-            if not part:
-                return True
-            is_open = part[0] != '"'
-        else:
-            part = re.match(r"//.*", rest) or re.match(r"b?'(\\.|[^'\\])'", rest) or re.match(r"(?!/\*|\*/)[^']", rest)
-            # a comment over lines, a lifetime
-            if not part:
-                return None
-            is_open = part[0] == '"'
+        part = (
+            re.match(r"//.*", rest)
+            or re.match(r"b?'(\\.|[^'\\])'", rest)
+            or re.match(r'"(\\.|[^"\\])*"', rest)
+            or re.match(r"(?!/\*|\*/)[^'\"]", rest)
+        )
+        if not part:
+            # a string that goes on; else a lifetime, or a comment or a string that runs over the end
+            return True if STRING_MORE.fullmatch(rest[1:]) and rest[0] == '"' else None
         rest = rest[part.end() :]
-    return None if is_open else False
+    return False
 
 
 def translate(path, lines, counts):
@@ -128,8 +130,8 @@ def translate(path, lines, counts):
         line = lines[i]
         i += 1
         if in_string:
-            in_string = string_open(line, True)
-            if in_string is None or not line.isascii():
+            in_string = STRING_MORE.fullmatch(line) is not None
+            if not line.isascii() or not in_string and not STRING_END.fullmatch(line):
                 raise strange("a string that is not plain")
             counts["lines copied"] += 1
             out.append(line)
@@ -177,7 +179,7 @@ def translate(path, lines, counts):
                 counts["lines of derive added"] += 1
                 out.append("#[derive(Clone, Copy)]")
         if not is_comment(line):
-            in_string = string_open(line, False)
+            in_string = string_open(line)
             if in_string is None or not line.isascii() or STRANGE.search(line):
                 raise strange("a form that is not known")
             # a call can end as a head does, but is not followed by a contract or a body
@@ -254,10 +256,17 @@ def imports(rests_on, lines):
 def read_crates():
     """crates.txt: what each crate rests on, in its order."""
     crates = {}
-    for line in open("crates.txt", encoding="utf-8"):
-        if not line.startswith("#"):
-            name, rests_on = line.split(":")
-            crates[name] = rests_on.split()
+    for line in read_lines("crates.txt"):
+        line = line.split("#")[0].strip()
+        if line:
+            form = re.fullmatch(r"(\w+):((?: +\w+)*)", line)
+            if not form:
+                raise Strange(f"crates.txt: a line that is not known:\n    {line}")
+            crates[form[1]] = form[2].split()
+            for other in crates[form[1]]:
+                # a crate stands after those that it rests on
+                if other not in crates and other not in KIT:
+                    raise Strange(f"crates.txt: {form[1]} rests on {other}, which is neither a crate nor the kit's")
     return crates
 
 
@@ -287,8 +296,7 @@ def main(folder, program=None):
     if program:
         wanted = [name for name in crates if name in below(crates, program) | {program}]
     else:
-        # what rests on the kit's libraries is for programs
-        of_kit = {name for name in crates if any(other not in crates for other in crates[name])}
+        of_kit = {name for name in crates if KIT & set(crates[name])}
         wanted = [name for name in crates if not of_kit & (below(crates, name) | {name})]
     os.makedirs(folder, exist_ok=True)
     counts, seen, made, shims = collections.Counter(), 0, 0, []
@@ -315,7 +323,8 @@ def main(folder, program=None):
     if made != seen - total["dropped"] + total["added"]:
         raise Strange("lines that are neither copied nor changed nor dropped")
     parts = ", ".join(f"{n} {what}" for what, n in sorted(counts.items()))
-    print(f"{program or 'library'}: {len(wanted)} crates, {seen} lines: {parts}")
+    rest = "" if program else f"; not in it, as for programs: {', '.join(name for name in crates if name not in wanted)}"
+    print(f"{program or 'library'}: {len(wanted)} crates, {seen} lines: {parts}{rest}")
 
 
 if __name__ == "__main__":

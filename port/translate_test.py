@@ -25,8 +25,8 @@ GOOD = {
     ),
     "a program": ("fn main() {\n}", "pub fn main() {\n}"),
     "a string over lines": (
-        'fn f() {\n    g(b"a\\\n        ghost use x;\\\nstruct S;\\"\\\n    b", b\'"\');\n}',
-        'fn f() {\n    g(b"a\\\n        ghost use x;\\\nstruct S;\\"\\\n    b", b\'"\');\n}',
+        'fn f() {\n    g(b\'"\', b"x", b"a\\\n        ghost use x;\\\nstruct S;\\"\\\n    b");\n}',
+        'fn f() {\n    g(b\'"\', b"x", b"a\\\n        ghost use x;\\\nstruct S;\\"\\\n    b");\n}',
     ),
     "a comment": ("// ghost, unsafe, ⌜ and #[x]", "// ghost, unsafe, ⌜ and #[x]"),
 }
@@ -53,6 +53,8 @@ BAD = {
     "a clause of a loop": "    while i < n\n        invariant { x }\n    {",
     "a string that is open at the end of a line": '    g(b"a\\\nghost use x;\ncd");',
     "a string that is not closed": '    g(b"ab\\',
+    "code after a string over lines": '    g(b"a\\\n    b"); unsafe { h() };',
+    "a raw string after a string over lines": '    g(b"a;\\\n    b;", br"\\", b"\nghost use x;\n"); // "',
     "a raw string": '    g(br"a\\");',
     "a comment over lines": "/*\nghost use a /* ;\n*/\npub fn f() {}\n// */",
     "the end of a comment": "    ghost use z */ *x = 1;",
