@@ -36,7 +36,7 @@ EXPORT = re.compile(r'pub extern "C" (fn \w+\(.*)')
 TYPE = re.compile(r"(pub )?(struct|enum) \w+.*")
 MAIN = "fn main() {"
 USE = re.compile(r"use (\w+)::(\w+);")
-# the lines of a string after its first: those that go on, and the last, after which nothing but this may come
+# the lines of a string after its first: one that goes on, and the last, after whose quote only these signs may come
 STRING_MORE = re.compile(r'(\\.|[^"\\])*\\')
 STRING_END = re.compile(r'(\\.|[^"\\])*"[),;]*')
 # the kit's libraries: what rests on them is for programs
