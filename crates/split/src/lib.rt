@@ -1,0 +1,29 @@
+// Cuts bytes at a separator: the lines of an input, the words of a line.
+//
+// Rests on nothing.
+ghost use mathlib.Core.Path.{_≡_};
+ghost use Rattle.split.specs.Cut.{endFrom, pieceFrom};
+
+// Where the piece that begins at an index ends: the first separator from there on, or the end of the bytes.
+pub fn end(s: &[u8], from: usize, c: u8) -> usize
+    ensures { λ r. ⌜ r ≡ endFrom c from (now (s .entry)) ⌝ }
+{
+    let mut i = from;
+    while i < s.len() {
+        if s[i] == c {
+            return i;
+        }
+        i += 1;
+    }
+    i
+}
+
+// The piece that begins at an index, as a part of the lent bytes; past their end there is an empty one.
+pub fn piece(s: &[u8], from: usize, c: u8) -> &[u8]
+    ensures { λ r. ⌜ now r ≡ pieceFrom c from (now (s .entry)) ⌝ }
+{
+    if s.len() < from {
+        return &s[s.len()..];
+    }
+    &s[from..end(s, from, c)]
+}
