@@ -1,6 +1,6 @@
 -- Where a piece ends, and the pieces from there on.
 -- Assumes nothing.
-use Prim.Native.Nat.{ℕ, suc, _+_, _≤_, _<_, zero-le}
+use Prim.Native.Nat.{ℕ, suc, _+_, _-_, _≤_, _<_, zero-le}
 use native.Mathlib.Nat.{add-zero}
 use native.Mathlib.Omega.{arith}
 use mathlib.Core.Bool.{Bool, true, false, cond}
@@ -9,7 +9,7 @@ use mathlib.Core.Path.{_≡_, refl, sym, ap, _∙_}
 use lib.Dec.{eqb}
 use lib.ListN.{length, getD, take, drop, drop-of-length-le, length-drop}
 use lib.Seq.{drop-cons, take-all}
-use borrow.Author.Tests.{ne-eqb}
+use borrow.Author.Tests.{eq-eqb, ne-eqb}
 use Rattle.split.specs.Cut.{onto, cut, firstOf, endFrom, pieceFrom}
 
 -- ---- the end of a piece, byte by byte
@@ -17,11 +17,19 @@ use Rattle.split.specs.Cut.{onto, cut, firstOf, endFrom, pieceFrom}
 module _ (c : ℕ) (s : List ℕ) (i : ℕ) where
   pub end-turn : i < length s → (getD s i 0 ≡ c → ⊥) → endFrom c i s ≡ endFrom c (i + 1) s
   unfolding endFrom firstOf
-  end-turn h n = rw (drop-cons s i 0 h, ne-eqb (getD s i 0) c n) (omega arith)
+  end-turn h n =
+      let next : suc i ≡ i + 1 = omega arith in
+      let here : firstOf c (drop i s) ≡ suc (firstOf c (drop (i + 1) s)) =
+      ap (firstOf c) (drop-cons s i 0 h) ∙ ap (λ (b : Bool). cond b 0 (suc (firstOf c (drop (suc i) s)))) (ne-eqb (getD s i 0) c n)
+      ∙ ap (λ (j : ℕ). suc (firstOf c (drop j s))) next in
+      omega (arith, here)
 
   pub end-here : i < length s → getD s i 0 ≡ c → endFrom c i s ≡ i
   unfolding endFrom firstOf
-  end-here h e = rw (drop-cons s i 0 h, e) (omega arith)
+  end-here h e =
+      let here : firstOf c (drop i s) ≡ 0 =
+      ap (firstOf c) (drop-cons s i 0 h) ∙ ap (λ (b : Bool). cond b 0 (suc (firstOf c (drop (suc i) s)))) (eq-eqb (getD s i 0) c e) in
+      omega (arith, here)
 
   pub end-past : length s ≤ i → endFrom c i s ≡ i
   unfolding endFrom firstOf
@@ -30,11 +38,11 @@ module _ (c : ℕ) (s : List ℕ) (i : ℕ) where
 pub first-within : (c : ℕ) (s : List ℕ) → firstOf c s ≤ length s
 unfolding firstOf
 first-within c [] = zero-le
-first-within c (x ∷ xs) = go (eqb x c)
+first-within c (x ∷ xs) = go (eqb x c) (first-within c xs)
   where
-    go : (b : Bool) → cond b 0 (suc (firstOf c xs)) ≤ suc (length xs)
-    go true = zero-le
-    go false = omega (arith, first-within c xs)
+    go : (b : Bool) → firstOf c xs ≤ length xs → cond b 0 (suc (firstOf c xs)) ≤ suc (length xs)
+    go true h = zero-le
+    go false h = omega arith
 
 -- a piece that begins within the bytes ends within them
 pub end-within : (c i : ℕ) (s : List ℕ) → i ≤ length s → (i ≤ endFrom c i s) × (endFrom c i s ≤ length s)
@@ -48,20 +56,35 @@ end-within c i s h =
 pub cut-found : (c : ℕ) (s : List ℕ) → firstOf c s < length s → cut c s ≡ take (firstOf c s) s ∷ cut c (drop (suc (firstOf c s)) s)
 unfolding cut firstOf onto
 cut-found c [] h = absurd (omega arith)
-cut-found c (x ∷ xs) h = go (eqb x c) h
+cut-found c (x ∷ xs) h = go (eqb x c) (cut-found c xs) h
   where
-    go : (b : Bool) → cond b 0 (suc (firstOf c xs)) < suc (length xs)
+    go : (b : Bool) → (firstOf c xs < length xs → cut c xs ≡ take (firstOf c xs) xs ∷ cut c (drop (suc (firstOf c xs)) xs))
+        → cond b 0 (suc (firstOf c xs)) < suc (length xs)
         → cond b ([] ∷ cut c xs) (onto (x ∷ []) (cut c xs))
         ≡ take (cond b 0 (suc (firstOf c xs))) (x ∷ xs) ∷ cut c (drop (suc (cond b 0 (suc (firstOf c xs)))) (x ∷ xs))
-    go true l = refl
-    go false l = ap (onto (x ∷ [])) (cut-found c xs (omega arith))
+    go true f l = refl
+    go false f l = ap (onto (x ∷ [])) (f (omega arith))
 
 -- none is found: one piece
 pub cut-last : (c : ℕ) (s : List ℕ) → firstOf c s ≡ length s → cut c s ≡ s ∷ []
 unfolding cut firstOf onto
 cut-last c [] h = refl
-cut-last c (x ∷ xs) h = go (eqb x c) h
+cut-last c (x ∷ xs) h = go (eqb x c) (cut-last c xs) h
   where
-    go : (b : Bool) → cond b 0 (suc (firstOf c xs)) ≡ suc (length xs) → cond b ([] ∷ cut c xs) (onto (x ∷ []) (cut c xs)) ≡ (x ∷ xs) ∷ []
-    go true l = absurd (omega arith)
-    go false l = ap (onto (x ∷ [])) (cut-last c xs (omega arith))
+    go : (b : Bool) → (firstOf c xs ≡ length xs → cut c xs ≡ xs ∷ []) → cond b 0 (suc (firstOf c xs)) ≡ suc (length xs) → cond b ([] ∷ cut c xs) (onto (x ∷ []) (cut c xs)) ≡ (x ∷ xs) ∷ []
+    go true f l = absurd (omega arith)
+    go false f l = ap (onto (x ∷ [])) (f (omega arith))
+
+-- ---- the piece at an index
+
+pub piece-is : (c i e : ℕ) (s : List ℕ) → e ≡ endFrom c i s → take (e - i) (drop i s) ≡ pieceFrom c i s
+unfolding pieceFrom endFrom
+piece-is c i e s q =
+    let n : e - i ≡ firstOf c (drop i s) = omega arith in
+    ap (λ (k : ℕ). take k (drop i s)) n
+
+pub piece-past : (c i : ℕ) (s : List ℕ) → length s < i → take (length s - length s) (drop (length s) s) ≡ pieceFrom c i s
+unfolding pieceFrom firstOf
+piece-past c i s h =
+    let none : length s - length s ≡ 0 = omega arith in
+    ap (λ (k : ℕ). take k (drop (length s) s)) none ∙ sym (ap (λ (l : List ℕ). take (firstOf c l) l) (drop-of-length-le s {i = i} (omega arith)))

@@ -21,6 +21,7 @@ pub end-spec : {M : Type 1} → statement M
 end-spec =
     tie.close
     (tie.spec Inv-loop μ-loop (λ c. refl) (λ c. search needs)
-    (λ c. ?) (λ c. search needs) (λ c. search needs)
-    (λ c. ?)
-    (λ c. ?))
+    (λ c. let l = c .before .before .before .loop in sym (l .inv ∙ end-here _ (now (c .before .before .before .before .args .s)) (l .i) (omega arith) (c .if1 .taken)))
+    (λ c. search needs) (λ c. search needs)
+    (λ c. let l = c .before .before .before .loop in l .inv ∙ end-turn _ (now (c .before .before .before .before .args .s)) (l .i) (omega arith) (c .if1 .left))
+    (λ c. sym (c .before .loop .inv ∙ end-past _ (now (c .before .before .args .s)) (c .before .loop .i) (omega arith))))
