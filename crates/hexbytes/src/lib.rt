@@ -50,7 +50,7 @@ pub fn types(s: &[u8]) -> TypesRead
     }
 }
 
-fn no_types() -> [u8; 256]
+pub fn no_types() -> [u8; 256]
     ensures { λ r. ⌜ r ≡ noTypes ⌝ }
 {
     [0u8; 256]

@@ -8,7 +8,7 @@ use mathlib.Core.List.{List, [], _∷_, _++_}
 use mathlib.Core.Path.{_≡_, refl, sym, ap, _∙_}
 use lib.Dec.{eqb}
 use lib.ListN.{length, getD, take, drop, drop-of-length-le, length-drop}
-use lib.Seq.{drop-cons, take-all}
+use lib.Seq.{drop-cons, drop-drop, take-all}
 use borrow.Author.Tests.{eq-eqb, ne-eqb}
 use Rattle.split.specs.Cut.{onto, cut, firstOf, endFrom, pieceFrom}
 
@@ -88,3 +88,33 @@ unfolding pieceFrom firstOf
 piece-past c i s h =
     let none : length s - length s ≡ 0 = omega arith in
     ap (λ (k : ℕ). take k (drop (length s) s)) none ∙ sym (ap (λ (l : List ℕ). take (firstOf c l) l) (drop-of-length-le s {i = i} (omega arith)))
+
+-- ---- the pieces from an index on, by where the first one ends
+
+module _ (c i : ℕ) (s : List ℕ) {e : ℕ} (q : e ≡ endFrom c i s) (h : i ≤ length s) where
+  -- it ends at a separator
+  pub cut-next : e < length s → cut c (drop i s) ≡ pieceFrom c i s ∷ cut c (drop (e + 1) s)
+  unfolding endFrom pieceFrom
+  cut-next l =
+      let k : i + suc (firstOf c (drop i s)) ≡ e + 1 = omega arith in
+      cut-found c (drop i s) (omega (arith, length-drop i s))
+      ∙ ap (λ (l : List ℕ). pieceFrom c i s ∷ cut c l) (drop-drop (suc (firstOf c (drop i s))) i s ∙ ap (λ (j : ℕ). drop j s) k)
+
+  -- it is the last, and all that is left
+  pub cut-end : length s ≤ e → (cut c (drop i s) ≡ pieceFrom c i s ∷ []) × (drop i s ≡ pieceFrom c i s)
+  unfolding endFrom pieceFrom
+  cut-end l =
+      let n : firstOf c (drop i s) ≡ length (drop i s) = omega (arith, length-drop i s, first-within c (drop i s)) in
+      let all : drop i s ≡ take (firstOf c (drop i s)) (drop i s) = sym (take-all (firstOf c (drop i s)) (drop i s) (omega arith)) in
+      (cut-last c (drop i s) n ∙ ap (λ (l : List ℕ). l ∷ []) all, all)
+
+-- there is a piece at least
+pub cut-some : (c : ℕ) (s : List ℕ) → 1 ≤ length (cut c s)
+unfolding cut onto
+cut-some c [] = omega arith
+cut-some c (x ∷ xs) = go (eqb x c) (cut c xs)
+  where
+    go : (b : Bool) (ps : List (List ℕ)) → 1 ≤ length (cond b ([] ∷ ps) (onto (x ∷ []) ps))
+    go true ps = omega arith
+    go false [] = omega arith
+    go false (p ∷ ps) = omega arith
