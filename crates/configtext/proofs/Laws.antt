@@ -12,14 +12,10 @@ use Rattle.errno.specs.declared.Errno.the-variants.{Einval}
 use Rattle.mask.specs.declared.Mask.{Mask}
 use Rattle.mask.specs.Bits.{Sized, Bits, bits, noBits}
 use Rattle.mask.proofs.Laws.{numbers-of-bits}
-use Rattle.masktext.specs.declared.MaskRead.{MaskRead}
-use Rattle.masktext.specs.Text.{outcome, maskText}
 use Rattle.rules.specs.declared.Configuration.{Configuration}
 use Rattle.split.specs.Cut.{cut, endFrom, pieceFrom}
-use Rattle.split.proofs.Laws.{cut-next, cut-end, cut-some}
-use Rattle.digits.specs.Digits.{startsHex}
-use Rattle.hexbytes.specs.declared.TypesRead.{TypesRead}
-use Rattle.hexbytes.specs.HexBytes.{typesText, typesRead, noTypes}
+use Rattle.split.proofs.Laws.{cut-next, cut-end, cut-some, cut-one, cut-two, cut-three}
+use Rattle.hexbytes.specs.HexBytes.{typesText}
 use Rattle.configtext.specs.declared.ConfigRead.{ConfigRead}
 use Rattle.configtext.specs.ConfigText.{whenGood, hexText, maskWith, fourText, configText, configRead, noConfig, Reads}
 
@@ -33,23 +29,13 @@ mask-none m h e = mask-is m h ∙ ap maskWith e
 
 -- ---- one word
 
-module _ (r : MaskRead) {o : Outcome Bits} (e : outcome r ≡ o) where
-  pub mask-good : r .good ≡ true → o ≡ granted (bits (r .mask))
-  unfolding outcome
-  mask-good h = sym e ∙ ap (λ (b : Bool). cond b (granted (bits (r .mask))) (refused Einval)) h
+-- an answer that has its outcome beside it
+module _ {A : Type 0} (g : Bool) (x : A) {o : Outcome A} (e : cond g (granted x) (refused Einval) ≡ o) where
+  pub told-good : g ≡ true → o ≡ granted x
+  told-good h = sym e ∙ ap (λ (b : Bool). cond b (granted x) (refused Einval)) h
 
-  pub mask-bad : r .good ≡ false → o ≡ refused Einval
-  unfolding outcome
-  mask-bad h = sym e ∙ ap (λ (b : Bool). cond b (granted (bits (r .mask))) (refused Einval)) h
-
-module _ (r : TypesRead) {o : Outcome (List ℕ)} (e : typesRead r ≡ o) where
-  pub types-good : r .good ≡ true → o ≡ granted (r .types)
-  unfolding typesRead
-  types-good h = sym e ∙ ap (λ (b : Bool). cond b (granted (r .types)) (refused Einval)) h
-
-  pub types-bad : r .good ≡ false → o ≡ refused Einval
-  unfolding typesRead
-  types-bad h = sym e ∙ ap (λ (b : Bool). cond b (granted (r .types)) (refused Einval)) h
+  pub told-bad : g ≡ false → o ≡ refused Einval
+  told-bad h = sym e ∙ ap (λ (b : Bool). cond b (granted x) (refused Einval)) h
 
 -- ---- four words, judged from the left
 
@@ -105,33 +91,24 @@ module _ (s : List ℕ) {a : ℕ} (qa : a ≡ endFrom 32 0 s) where
   one-word l = ap configText (cut-end 32 0 s qa (omega arith) l .0) ∙ wrong (word s 0 ∷ []) (λ e. omega arith)
 
   module _ {b : ℕ} (la : a < length s) (qb : b ≡ endFrom 32 (a + 1) s) where
-    first : cut 32 s ≡ word s 0 ∷ cut 32 (drop (a + 1) s)
-    first = cut-next 32 0 s qa (omega arith) la
-
     pub two-words : length s ≤ b → configText (cut 32 s) ≡ refused Einval
     two-words l =
-        ap configText (first ∙ ap (λ (ws : List (List ℕ)). word s 0 ∷ ws) (cut-end 32 (a + 1) s qb (omega arith) l .0))
+        ap configText (cut-one 32 s qa la ∙ ap (λ (ws : List (List ℕ)). word s 0 ∷ ws) (cut-end 32 (a + 1) s qb (omega arith) l .0))
         ∙ wrong (word s 0 ∷ word s (a + 1) ∷ []) (λ e. omega arith)
 
     module _ {c : ℕ} (lb : b < length s) (qc : c ≡ endFrom 32 (b + 1) s) where
-      second : cut 32 s ≡ word s 0 ∷ word s (a + 1) ∷ cut 32 (drop (b + 1) s)
-      second = first ∙ ap (λ (ws : List (List ℕ)). word s 0 ∷ ws) (cut-next 32 (a + 1) s qb (omega arith) lb)
-
       pub three-words : length s ≤ c → configText (cut 32 s) ≡ refused Einval
       three-words l =
-          ap configText (second ∙ ap (λ (ws : List (List ℕ)). word s 0 ∷ word s (a + 1) ∷ ws) (cut-end 32 (b + 1) s qc (omega arith) l .0))
+          ap configText (cut-two 32 s qa la qb lb ∙ ap (λ (ws : List (List ℕ)). word s 0 ∷ word s (a + 1) ∷ ws) (cut-end 32 (b + 1) s qc (omega arith) l .0))
           ∙ wrong (word s 0 ∷ word s (a + 1) ∷ word s (b + 1) ∷ []) (λ e. omega arith)
 
       module _ {d : ℕ} (lc : c < length s) (qd : d ≡ endFrom 32 (c + 1) s) where
-        third : cut 32 s ≡ word s 0 ∷ word s (a + 1) ∷ word s (b + 1) ∷ cut 32 (drop (c + 1) s)
-        third = second ∙ ap (λ (ws : List (List ℕ)). word s 0 ∷ word s (a + 1) ∷ ws) (cut-next 32 (b + 1) s qc (omega arith) lc)
-
         pub many-words : d < length s → configText (cut 32 s) ≡ refused Einval
         many-words l =
-            ap configText (third ∙ ap (λ (ws : List (List ℕ)). word s 0 ∷ word s (a + 1) ∷ word s (b + 1) ∷ ws) (cut-next 32 (c + 1) s qd (omega arith) l))
+            ap configText (cut-three 32 s qa la qb lb qc lc ∙ ap (λ (ws : List (List ℕ)). word s 0 ∷ word s (a + 1) ∷ word s (b + 1) ∷ ws) (cut-next 32 (c + 1) s qd (omega arith) l))
             ∙ wrong (word s 0 ∷ word s (a + 1) ∷ word s (b + 1) ∷ word s (c + 1) ∷ cut 32 (drop (d + 1) s)) (λ e. omega (arith, cut-some 32 (drop (d + 1) s)))
 
         pub four-words : length s ≤ d → configText (cut 32 s) ≡ fourText (word s 0) (word s (a + 1)) (word s (b + 1)) (word s (c + 1))
         unfolding configText
         four-words l =
-            ap configText (third ∙ ap (λ (ws : List (List ℕ)). word s 0 ∷ word s (a + 1) ∷ word s (b + 1) ∷ ws) (cut-end 32 (c + 1) s qd (omega arith) l .0))
+            ap configText (cut-three 32 s qa la qb lb qc lc ∙ ap (λ (ws : List (List ℕ)). word s 0 ∷ word s (a + 1) ∷ word s (b + 1) ∷ ws) (cut-end 32 (c + 1) s qd (omega arith) l .0))

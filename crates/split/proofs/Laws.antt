@@ -118,3 +118,17 @@ cut-some c (x ∷ xs) = go (eqb x c) (cut c xs)
     go true ps = omega arith
     go false [] = omega arith
     go false (p ∷ ps) = omega arith
+
+-- the first pieces of all, one by one
+module _ (c : ℕ) (s : List ℕ) {a : ℕ} (qa : a ≡ endFrom c 0 s) (la : a < length s) where
+  pub cut-one : cut c s ≡ pieceFrom c 0 s ∷ cut c (drop (a + 1) s)
+  cut-one = cut-next c 0 s qa (omega arith) la
+
+  module _ {b : ℕ} (qb : b ≡ endFrom c (a + 1) s) (lb : b < length s) where
+    pub cut-two : cut c s ≡ pieceFrom c 0 s ∷ pieceFrom c (a + 1) s ∷ cut c (drop (b + 1) s)
+    cut-two = cut-one ∙ ap (λ (ps : List (List ℕ)). pieceFrom c 0 s ∷ ps) (cut-next c (a + 1) s qb (omega arith) lb)
+
+    pub cut-three : {d : ℕ} → d ≡ endFrom c (b + 1) s → d < length s
+        → cut c s ≡ pieceFrom c 0 s ∷ pieceFrom c (a + 1) s ∷ pieceFrom c (b + 1) s ∷ cut c (drop (d + 1) s)
+    cut-three qd ld =
+        cut-two ∙ ap (λ (ps : List (List ℕ)). pieceFrom c 0 s ∷ pieceFrom c (a + 1) s ∷ ps) (cut-next c (b + 1) s qd (omega arith) ld)

@@ -1,0 +1,16 @@
+-- `read_line` meets its contract.
+-- Assumes nothing.
+use native.Mathlib.Omega.{arith}
+use denote.Ref.{now}
+use Rattle.linetext.proofs.Laws.{asked-bad, newline-line, plain-line}
+use borrow.Author.Needs.{needs}
+use Rattle.linetext.proofs.read_line.Statement.{statement}
+use Rattle.linetext.proofs.read_line.Tie as tie
+
+pub read-line-spec : {M : Type 1} → statement M
+read-line-spec =
+    tie.close
+    (tie.spec (λ c κs. search needs) (λ c κs. search needs)
+    (λ c. newline-line (now (c .before .before .before .before .args .line)) (c .before .before .end .ensures) _ (omega arith) (asked-bad _ (c .only .ensures)))
+    (λ c κs. search needs)
+    (λ c. plain-line (now (c .before .before .before .before .args .line)) (c .before .before .end .ensures) _ (omega arith) (c .read .ensures)))
