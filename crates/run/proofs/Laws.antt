@@ -122,13 +122,13 @@ pub record Going (bytes old new : List ℕ) (k m : Memory) (at n : ℕ) : Type 0
   pub steps : stepsOf (decode (length old) bytes) (read k) ≡ done ++ stepsOf (decode (length old - n) (drop at bytes)) (read m)
 
 -- no call
-stays : (m : Memory) → GoesOn m m []
+pub stays : (m : Memory) → GoesOn m m []
 unfolding GoesOn
 stays m l xs rs c =
     ([], subst (λ (q : List Step). Chain l m q (rs ++ [])) (sym (append-nil xs)) (subst (Chain l m xs) (sym (append-nil rs)) c))
 
 -- one call more
-further : (m n k : Memory) (xs ys : List Step) {rs : List ℕ} → GoesOn m n xs → Call n k ys rs → GoesOn m k (xs ++ ys)
+pub further : (m n k : Memory) (xs ys : List Step) {rs : List ℕ} → GoesOn m n xs → Call n k ys rs → GoesOn m k (xs ++ ys)
 unfolding GoesOn
 further m n k xs ys {rs} h c l zs ts d =
     let g = h l zs ts d in

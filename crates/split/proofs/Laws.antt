@@ -132,3 +132,18 @@ module _ (c : ℕ) (s : List ℕ) {a : ℕ} (qa : a ≡ endFrom c 0 s) (la : a <
         → cut c s ≡ pieceFrom c 0 s ∷ pieceFrom c (a + 1) s ∷ pieceFrom c (b + 1) s ∷ cut c (drop (d + 1) s)
     cut-three qd ld =
         cut-two ∙ ap (λ (ps : List (List ℕ)). pieceFrom c 0 s ∷ pieceFrom c (a + 1) s ∷ ps) (cut-next c (b + 1) s qd (omega arith) ld)
+
+-- a piece has no separator in it
+first-take : (c : ℕ) (s : List ℕ) → firstOf c (take (firstOf c s) s) ≡ length (take (firstOf c s) s)
+unfolding firstOf
+first-take c [] = refl
+first-take c (x ∷ xs) = go (eqb x c) refl (first-take c xs)
+  where
+    go : (b : Bool) → eqb x c ≡ b → firstOf c (take (firstOf c xs) xs) ≡ length (take (firstOf c xs) xs)
+        → firstOf c (take (cond b 0 (suc (firstOf c xs))) (x ∷ xs)) ≡ length (take (cond b 0 (suc (firstOf c xs))) (x ∷ xs))
+    go true e h = refl
+    go false e h = ap (λ (b : Bool). cond b 0 (suc (firstOf c (take (firstOf c xs) xs)))) e ∙ ap suc h
+
+pub piece-free : (c i : ℕ) (s : List ℕ) → length (pieceFrom c i s) ≤ firstOf c (pieceFrom c i s)
+unfolding pieceFrom
+piece-free c i s = omega (arith, first-take c (drop i s))
