@@ -1,11 +1,13 @@
 -- The answer lines, and texts that are written one after the other.
 -- Assumes nothing.
-use Prim.Native.Nat.{ℕ, suc, _+_, _-_, _≤_, _<_}
+use Prim.Native.Nat.{ℕ, zero, suc, _+_, _-_, _/_, _%_, _≤_, _<_}
 use native.Mathlib.Omega.{arith}
 use native.Mathlib.Nat.{add-assoc}
 use native.Mathlib.Numerals.{add-one}
+use mathlib.Core.Bool.{Bool, true, false, cond}
 use mathlib.Core.List.{List, [], _∷_, _++_, append-assoc}
 use mathlib.Core.Path.{_≡_, refl, sym, ap, _∙_}
+use lib.Dec.{ltb}
 use lib.ListN.{length, take, drop, set, replicate, length-append, length-replicate}
 use lib.Seq.{paste, take-paste, drop-paste, take-length, take-all, take-at, drop-at, drop-drop, set-split, append-snoc}
 use borrow.Author.Tests.{le-leb, lt-leb}
@@ -16,9 +18,11 @@ use Rattle.errno.specs.declared.Errno.the-variants.{Enoent, Ebusy, Eexist, Enod
 use Rattle.rules.specs.declared.Moved.{Moved}
 use Rattle.rules.specs.declared.Moved.the-variants.{Idle, Released, BoundHost, BoundPassthrough}
 use Rattle.movednames.specs.Moves.{movedWord}
-use Rattle.decimal.specs.Decimal.{decimal, most}
+use Rattle.decimal.specs.Decimal.{decimalIn, decimal, most}
 use Rattle.answerline.specs.Added.{Added}
-use Rattle.answerline.specs.Answers.{ended, nameIn, commandLine, longest, Put}
+use Rattle.answerline.specs.declared.Said.{Said}
+use Rattle.answerline.specs.declared.Said.the-variants.{Done, Refused, Did, Used}
+use Rattle.answerline.specs.Answers.{ended, nameIn, commandLine, moveLine, sweepLine, saidLine, longest, Put}
 
 -- ---- what is written
 
@@ -87,3 +91,25 @@ word-short Idle = omega arith
 word-short Released = omega arith
 word-short BoundHost = omega arith
 word-short BoundPassthrough = omega arith
+
+-- ---- no line is longer than the longest
+
+decimal-short : (k n : ℕ) → length (decimalIn k n) ≤ suc k
+unfolding decimalIn
+decimal-short zero n = omega arith
+decimal-short (suc k) n = go (ltb n 10) (decimal-short k (n / 10))
+  where
+    go : (b : Bool) → length (decimalIn k (n / 10)) ≤ suc k
+        → length (cond b ((48 + n % 10) ∷ []) (decimalIn k (n / 10) ++ (48 + n % 10) ∷ [])) ≤ suc (suc k)
+    go true h = omega arith
+    go false h = omega (arith, length-append (decimalIn k (n / 10)) ((48 + n % 10) ∷ []))
+
+ended-long : (x y : List ℕ) → length (ended (x ++ y)) ≡ length x + length y + 1
+ended-long x y = length-append (x ++ y) (10 ∷ []) ∙ ap (λ (n : ℕ). n + 1) (length-append x y)
+
+pub said-short : (r : Said) → length (saidLine r) ≤ longest
+unfolding saidLine commandLine moveLine sweepLine ascii decimal
+said-short Done = omega arith
+said-short (Refused e) = omega (arith, ap length (refusal e .0), ended-long (ascii "refused ") (nameOf e), refusal e .1)
+said-short (Did m) = omega (arith, ended-long (ascii "ok ") (movedWord m), word-short m)
+said-short (Used n) = omega (arith, ended-long (ascii "ok ") (decimal n), decimal-short 9 n)

@@ -1,3 +1,3 @@
 pub mod Pieces
-pub mod Lines
+pub mod Played
 pub mod Laws

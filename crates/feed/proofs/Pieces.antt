@@ -3,7 +3,7 @@
 use Prim.Native.Nat.{ℕ, suc, _+_, _-_, _≤_, _<_, min}
 use native.Mathlib.Omega.{arith}
 use mathlib.Core.Bool.{Bool, true, false, cond}
-use mathlib.Core.List.{List, [], _∷_, _++_, append-assoc}
+use mathlib.Core.List.{List, [], _∷_, _++_, append-nil, append-assoc}
 use mathlib.Core.Path.{_≡_, refl, sym, ap, ap₂, _∙_}
 use lib.Dec.{eqb, leb}
 use lib.ListN.{length, take, drop, length-append, length-take}
@@ -14,7 +14,7 @@ use Rattle.split.proofs.Laws.{cut-next, cut-end, cut-some, piece-free}
 use Rattle.errno.specs.Outcome.{Outcome}
 use Rattle.encoding.specs.Encoding.{Request}
 use Rattle.linetext.specs.Lines.{bad, byWords, pieceRequest, holds, lineRequest}
-use Rattle.feed.specs.Input.{finished, unfinished, endedIn, begunIn, readAs, mostKept, kept}
+use Rattle.feed.specs.Input.{finished, unfinished, lastLine, endedIn, begunIn, readAs, mostKept, kept}
 use Rattle.feed.specs.Feeding.{joinedAt}
 
 -- ---- all but the last, and the last
@@ -138,9 +138,9 @@ kept-request u q = go (leb (length u) mostKept) refl
         long-bad (kept u ++ q) (omega (arith, length-append (kept u) q, kept-long u (omega arith))) ∙ sym (long-bad (u ++ q) (omega (arith, length-append u q)))
 
 kept-join : (u q : List ℕ) → kept (kept u ++ q) ≡ kept (u ++ q)
+unfolding kept
 kept-join u q = go (leb (length u) mostKept) refl
   where
-    unfolding kept
     go : (b : Bool) → leb (length u) mostKept ≡ b → kept (kept u ++ q) ≡ kept (u ++ q)
     go true e = ap (λ (l : List ℕ). kept (l ++ q)) (kept-all u (leb-true (length u) mostKept e))
     go false e =
@@ -184,3 +184,13 @@ joined-held buffer at l n h =
     take-paste buffer at l (min (length l) (mostKept - at)) (omega arith) (omega arith)
     ∙ ap (λ (r : List ℕ). take at buffer ++ r) (take-least (mostKept - at) l)
     ∙ sym (take-append-add (take at buffer) l (mostKept - at)) ∙ ap (λ (j : ℕ). take j (take at buffer ++ l)) all
+
+-- ---- a line that is kept is read as the line
+
+pub kept-same : (l : List ℕ) → lineRequest (kept l) ≡ lineRequest l
+kept-same l = ap lineRequest (sym (append-nil (kept l))) ∙ kept-request l [] ∙ ap lineRequest (append-nil l)
+
+pub kept-lastLine : (u : List ℕ) → readAs (lastLine (kept u)) ≡ readAs (lastLine u)
+unfolding lastLine kept
+kept-lastLine [] = refl
+kept-lastLine (x ∷ xs) = ap (λ (r : Outcome Request). r ∷ []) (kept-same (x ∷ xs))

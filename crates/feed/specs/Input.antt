@@ -122,4 +122,4 @@ kept l = take mostKept l
 -- Some bytes of an input were taken: the lines that they ended are carried out, and what they began is kept.
 pub record Taken (l : Limits) (input out : List ℕ) (m : Memory) (held : List ℕ) : Type 0 where
   pub played : Played l (readAs (endedIn input)) out m
-  pub held : held ≡ kept (begunIn input)
+  pub begun : held ≡ kept (begunIn input)

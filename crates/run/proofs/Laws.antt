@@ -220,7 +220,7 @@ module _ {bytes old new : List ℕ} {k m : Memory} {at n : ℕ} (g : Going bytes
 
 -- ---- a run on a fresh record of limits that are bytes
 
-made : {a d : ℕ} {m n : Memory} {r : Answer} → Carried (start a d) (λ k. freshMemory a d) m n r → a < 256 → d < 256
+pub made : {a d : ℕ} {m n : Memory} {r : Answer} → Carried (start a d) (λ k. freshMemory a d) m n r → a < 256 → d < 256
     → (answered r ≡ 0) × (n ≡ freshMemory a d)
 unfolding start errnoOf memoryAfter
 made {a} {d} {m} {n} {r} c ha hd =

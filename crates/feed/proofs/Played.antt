@@ -8,7 +8,8 @@ use mathlib.Core.Path.{_≡_, refl, sym, ap, ap₂, subst, _∙_}
 use lib.ListN.{length, take, drop, length-append, take-append-drop}
 use lib.Seq.{paste, take-length, take-at, drop-drop, take-paste, drop-paste}
 use Rattle.errno.specs.Outcome.{Outcome, granted, refused}
-use Rattle.rules.specs.State.{Limits, State, fresh}
+use Rattle.rules.specs.State.{Limits, State, fresh, apid, apqi}
+use Rattle.rules.specs.Sweeps.{swept}
 use Rattle.rules.specs.Commands.{errnoOf}
 use Rattle.layout.specs.Carried.{Memory, read}
 use Rattle.setup.specs.Fresh.{freshMemory}
@@ -128,13 +129,13 @@ moves-commands f g [] = refl
 moves-commands f g (q ∷ qs) = moves-commands f g qs
 
 commands-are : (os : List (Outcome Request)) (s : State) → commandsOf (stepsOfLines os s) ≡ commandsIn os
-unfolding requestsOf stepsOf stepsFor commandsOf commandsIn sweepSteps
+unfolding requestsOf stepsOf stepsFor stepsIn afterFor afterAll commandsOf commandsIn sweepSteps
 commands-are [] s = refl
 commands-are (granted (command c) ∷ os) s = ap (λ (l : List Command). c ∷ l) (commands-are os (afterFor (granted (command c)) s))
 commands-are (granted (move a d) ∷ os) s = commands-are os (afterFor (granted (move a d)) s)
 commands-are (granted (sweep b) ∷ os) s =
     commands-append (sweepSteps b s) (stepsOfLines os (afterFor (granted (sweep b)) s))
-    ∙ ap₂ (λ (x y : List Command). x ++ y) (moves-commands _ _ _) (commands-are os (afterFor (granted (sweep b)) s))
+    ∙ ap₂ (λ (x y : List Command). x ++ y) (moves-commands apid apqi (swept b s)) (commands-are os (afterFor (granted (sweep b)) s))
 commands-are (refused e ∷ os) s = commands-are os s
 
 answers-are : (os : List (Outcome Request)) (s : State) → toCommands os (answersTo os s) ≡ map commandLine (answers (stepsOfLines os s) s)
@@ -167,6 +168,7 @@ played-by l os {out} {m} eo em c =
 -- lines after those that were carried out
 pub played-more : (l : Limits) (xs ys : List (Outcome Request)) {before out after : List ℕ} {m n : Memory} {r : ℕ} → Played l xs before m → Done ys m n 0 out after r
     → Played l (xs ++ ys) (before ++ take r after) n
+unfolding GoesOn
 played-more l xs ys {before} {out} {after} {m} {n} {r} p d =
     let state : read m ≡ stateAfter xs (fresh l) = p .demand .state in
     let text : take r after ≡ outputOf ys (stateAfter xs (fresh l)) =
@@ -177,7 +179,7 @@ played-more l xs ys {before} {out} {after} {m} {n} {r} p d =
     played-by l (xs ++ ys) (ap₂ (λ (x y : List ℕ). x ++ y) (p .output) text ∙ sym (output-append xs ys (fresh l)))
     (d .memory ∙ ap (leavesAll (requestsOf ys)) (p .memory)
     ∙ sym (ap (λ (q : List Request). leavesAll q (freshMemory (l .adapter) (l .domain))) (requests-append xs ys) ∙ leaves-append (requestsOf xs) (requestsOf ys) (freshMemory (l .adapter) (l .domain))))
-    (subst (λ (q : List Step). Chain l n q _) steps (went .1))
+    (subst (λ (q : List Step). Chain l n q (answers (stepsOfLines xs (fresh l)) (fresh l) ++ went .0)) steps (went .1))
 
 -- nothing yet
 pub played-none : {l : Limits} {m : Memory} → m ≡ freshMemory (l .adapter) (l .domain) → Chain l m [] [] → Played l [] [] m
