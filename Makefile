@@ -18,13 +18,21 @@ clean:
 	rm -rf target
 
 # The expected output of three programs, and the input of two, was made by these Python programs, which share no code with
-# the library. This shows only that the stored files are still what they make.
+# the library. This shows only that the stored files are still what they make. The answers of the console were worked out by hand,
+# and stand in tests/console.py, which also holds them to the model of the others.
+CONSOLES = console console_1023 console_1024 console_1025 console_5000
+
 expected:
 	@python3 tests/textcases.py | cmp - crates/textcases/stdout && echo "textcases: agrees"
 	@python3 tests/cases.py stdin | cmp - crates/cases/stdin && echo "cases, input: agrees"
 	@python3 tests/cases.py stdout | cmp - crates/cases/stdout && echo "cases: agrees"
 	@python3 tests/lists.py stdin | cmp - crates/lists/stdin && echo "lists, input: agrees"
 	@python3 tests/lists.py stdout | cmp - crates/lists/stdout && echo "lists: agrees"
+	@for c in $(CONSOLES); do \
+	    python3 tests/console.py $$c stdin | cmp - crates/$$c/stdin && echo "$$c, input: agrees" || exit 1; \
+	    python3 tests/console.py $$c stdout | cmp - crates/$$c/stdout && echo "$$c: agrees" || exit 1; \
+	    python3 tests/console.py $$c check && echo "$$c, by the model: agrees" || exit 1; \
+	done
 
 # What follows is outside of the proof. The library is proved first where that is not done yet.
 .PHONY: library install outside bench example
