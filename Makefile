@@ -1,15 +1,25 @@
 # Two commands for a stranger: `make run` shows what there is to see, `make test` is the gate. GNU make and bash.
 SHELL = /bin/bash
 .SHELLFLAGS = -o pipefail -c
-.PHONY: run test expected clean
+.PHONY: run console test expected clean
 
 # The lines of a check that say which crate is proved; all of it where the check fails. $(1) is the command, $(2) its log.
 show = { mkdir -p target; $(1) 2>&1 | tee $(2) | grep --line-buffered '^rt: .* proved' || { cat $(2); exit 1; }; }
 
 run:
-	@echo "proving the crates of the program 'guests': on a fresh clone some three minutes, a line for each as it is proved"
-	@$(call show,rt check guests,target/run.log)
+	@echo "proving the crates of the programs 'guests' and 'console': on a fresh clone some minutes, a line for each as it is proved"
+	@$(call show,rt check guests console,target/run.log)
 	@target/bin/guests
+	@echo
+	@echo "the same at the console, each line with its answer:"
+	@example/play.sh example/guests.console
+
+# The lines to come are not the check's to read.
+console:
+	@echo "proving the crates of the program 'console': on a fresh clone some minutes, a line for each as it is proved"
+	@$(call show,rt check console </dev/null,target/console.log)
+	@echo "the console: a command a line, as 'apmask -5' or 'sweep'; the end of the input (Ctrl-D) ends it"
+	@target/bin/console
 
 test:
 	rt ci
@@ -38,7 +48,7 @@ expected:
 .PHONY: library install outside bench example
 LIB = target/lib/libzokormendu.a
 # The crates that export functions. `rt staticlib` makes an archive of each one's exports, with one object.
-EXPORTS = c_record c_devices c_assign c_number c_host c_queues c_matrix c_look c_names
+EXPORTS = c_record c_devices c_assign c_number c_host c_queues c_matrix c_look c_line c_names
 
 library: $(LIB)
 

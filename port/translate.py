@@ -87,7 +87,7 @@ PROGRAM_HEAD = """\
 #![allow(dead_code, unused_variables, unused_imports)]
 
 mod kit;
-use kit::{bytes, io};
+use kit::{bytes, io, libc};
 """
 
 
