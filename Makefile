@@ -97,13 +97,20 @@ example: library
 	@diff example-c/guests.expected target/example-c/guests.out && echo "example: agrees"
 
 # The library beside a second implementation of the requirements, on random commands. It goes through the header's inline
-# functions, which header.c gives symbols.
+# functions, which header.c gives symbols. Then the program of the console beside it, on random lines.
 SEED = 1
 SECONDS = 120
+LINES = 100000
 LINK = -L native=target/lib -l static=zokormendu
 
-outside: target/outside/outside
+outside: target/outside/outside target/bin/console
 	target/outside/outside $(SEED) $(SECONDS)
+	target/outside/outside console $(SEED) $(LINES) target/bin/console
+
+target/bin/console: $(shell find crates.txt crates)
+	@echo "making $@: a line for each crate as it is proved"
+	@$(call show,rt check console,target/console.log)
+	@touch $@
 
 target/outside/outside: $(LIB) outside/outside.rs outside/header.c include/zokormendu.h
 	@mkdir -p target/outside
@@ -141,7 +148,7 @@ target/s390x/%/libzokormendu.a: $(shell find crates.txt crates port include outs
 	@echo "$@ is not there, or older than its sources: make s390x makes it"; exit 1
 
 # The translation beside its source, crate by crate, and last the shims, which have none. CRATES="mask rules" shows these alone.
-CRATES = $(shell sed -n 's/^\([a-z_]*\):.*/\1/p' crates.txt) lib
+CRATES = $(shell sed -n 's/^\([a-z0-9_]*\):.*/\1/p' crates.txt) lib
 
 s390x-diff:
 	@rm -rf target/s390x/diff
