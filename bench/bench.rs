@@ -989,10 +989,10 @@ fn spelled(random: &mut Random, n: usize) -> String {
     }
 }
 
-/// Lines on the devices of `assigns`: an assignment, an unassignment and a move in turn. Of the assignments, a third asks for free
-/// numbers, a third for numbers of the other device of a pair, a third for reserved ones. Unassignments are of numbers that are
-/// free at the start, so that some were assigned before; one in four is of no device, of a number above the limit, or bad text.
-/// Moves are of few queues, half of which are due for two moves; one in eight has a number above 255.
+/// Lines on the devices of `pairs`: an assignment, an unassignment and a move in turn. Of the assignments, a third asks for
+/// free numbers, a third for numbers of the other device of a pair, a third for reserved ones. Unassignments are of numbers
+/// that are free at the start, so that some were assigned before; one in four is of no device, of a number above the limit,
+/// or bad text. Moves are of few queues, half of which are due for two moves; one in eight has a number above 255.
 fn some_line(random: &mut Random, k: usize) -> Vec<u8> {
     let id = |device: usize| device_id(device as u8).map(|byte| format!("{byte:02x}")).concat();
     let kind = |device: usize| if device >= 4 { "domain" } else { "adapter" };

@@ -7,9 +7,9 @@
 //! The same seed makes the same steps; the limits only end the run. Exit status 0: nothing differed, and each of the eight
 //! refusals was met, also by a line of the console, and each that an assignment by number can have.
 //!
-//! With `console`, a seed, a number of lines (default 100,000) and a path (default target/bin/console) it starts that program
-//! instead, and compares its answers with the second implementation's: those to a random input that is written in random parts,
-//! those to short inputs, and those of a dialogue, in which each answer is awaited before the next line is sent. Exit status 0:
+//! With `console`, a seed, a number of lines (default 100,000) and a path (default target/bin/console) it starts that
+//! program instead, and compares its answers with the second implementation's: to a random input that is written in random
+//! parts, to short inputs, and in a dialogue, where each answer is awaited before the next line is sent. Exit status 0:
 //! nothing differed, and each form of an answer was met.
 
 use std::collections::BTreeMap;
@@ -2758,25 +2758,27 @@ impl Console {
             line.iter_mut().filter(|c| **c == b'\n').for_each(|c| *c = b'\r');
             let answer = self.record.console(&line);
             let what = |e: String| format!("line {n}, {}: {e}", shown(&line));
-            let mut rest = &line[..];
-            while !rest.is_empty() && self.random.one_in(2) {
-                let (part, after) = rest.split_at(self.random.below(rest.len() as u64 + 1) as usize);
-                program.write(part).map_err(what)?;
-                rest = after;
-            }
-            program.write(rest).map_err(what)?;
-            // a line that has not ended has no answer yet
-            if self.random.one_in(8) {
-                thread::sleep(Duration::from_millis(2));
-            }
-            program.got.extend(program.output.try_iter().flatten());
-            if !program.got.is_empty() {
-                return Err(what(format!("\"{}\" before the line's end", program.got.escape_ascii())));
+            // in one part or several; before the newline there is no answer
+            let ended = [&line[..], b"\n"].concat();
+            let mut rest = if last { &line[..] } else { &ended[..] };
+            while !rest.is_empty() {
+                program.got.extend(program.output.try_iter().flatten());
+                if !program.got.is_empty() {
+                    return Err(what(format!("\"{}\" before the line's end", program.got.escape_ascii())));
+                }
+                let part = match self.random.below(4) {
+                    0 => 1 + self.random.below(rest.len() as u64) as usize,
+                    1 if rest.len() > 1 => rest.len() - 1,
+                    _ => rest.len(),
+                };
+                program.write(&rest[..part]).map_err(what)?;
+                rest = &rest[part..];
+                if self.random.one_in(8) {
+                    thread::sleep(Duration::from_millis(2));
+                }
             }
             if last {
                 drop(program.input.take());
-            } else {
-                program.write(b"\n").map_err(what)?;
             }
             let got = program.answer().map_err(what)?;
             equal("answer", got, answer).map_err(what)?;

@@ -4,10 +4,10 @@
     console.py NAME stdin|stdout    the file of that name in crates/NAME
     console.py NAME check           compares the answers with those of the Python model of tests/service.py
 
-A row is a line and its answer. The answers were worked out by hand from the requirements, and not from a run; the model is a
-cross-check only. In a line $0 to $9 stand for ids of 31 zeros and that digit, $all for a mask of 64 hex digits with every bit,
-$ten for 512 digits that give each adapter the hardware type 10. The input of console ends with a newline, so it has no last
-line without one. That of console_N ends with a line of N bytes and no newline."""
+A row is a line and its answer. The answers were worked out by hand from the requirements, and not from a run; the model
+is a cross-check only. In a line $0 to $9 stand for ids of 31 zeros and that digit, $all for a mask of 64 hex digits with
+every bit, $ten for 512 digits that give each adapter the hardware type 10. The input of console ends with a newline, so
+it has no last line without one. That of console_N ends with a line of N bytes and no newline."""
 import re
 import sys
 
@@ -287,7 +287,8 @@ ROWS = [
     ("move 0000000000000006 0x00000000000004", "ok released"),  # (6,4) has the host's driver
     ("move 6 4", "ok passthrough"),
 
-    # hex masks: bit 0 is the leftmost, zeros are filled in on the right. $1 has domain 8, so a bit of apmask refuses its adapter
+    # hex masks: bit 0 is the leftmost, zeros are filled in on the right. $1 has domain 8, which aqmask has, so a bit of
+    # apmask refuses its adapter
     ("create $1", "ok"),
     ("assign $1 domain 8", "ok"),
     ("apmask 0x41", "ok"),  # setting 1: bits 1 and 7
@@ -458,8 +459,8 @@ ROWS = [
     ("sweep", "ok 131072"),  # all do
     ("sweep", "ok 0"),
 
-    # two digits an adapter, from 0 on, the high one first: 16, 1, 10, 9, 255, 175, and 11 for adapter 255. Nothing is reserved, and
-    # domain 0 is left
+    # two digits an adapter, from 0 on, the high one first: 16, 1, 10, 9, 255, 175, and 11 for adapter 255. Nothing is
+    # reserved, and domain 0 is left
     ("config $all 0x8 0x0 " + "10010a09ffaF" + "00" * 249 + "0b", "ok"),
     ("move 0 0", "ok idle"),  # passthrough, as before
     ("move 1 0", "ok released"),  # a type below 10
