@@ -1,15 +1,25 @@
 # Two commands for a stranger: `make run` shows what there is to see, `make test` is the gate. GNU make and bash.
 SHELL = /bin/bash
 .SHELLFLAGS = -o pipefail -c
-.PHONY: run test expected clean
+.PHONY: run console test expected clean
 
 # The lines of a check that say which crate is proved; all of it where the check fails. $(1) is the command, $(2) its log.
 show = { mkdir -p target; $(1) 2>&1 | tee $(2) | grep --line-buffered '^rt: .* proved' || { cat $(2); exit 1; }; }
 
 run:
-	@echo "proving the crates of the program 'guests': on a fresh clone some three minutes, a line for each as it is proved"
-	@$(call show,rt check guests,target/run.log)
+	@echo "proving the crates of the programs 'guests' and 'console': on a fresh clone some minutes, a line for each as it is proved"
+	@$(call show,rt check guests console,target/run.log)
 	@target/bin/guests
+	@echo
+	@echo "the same at the console, each line with its answer:"
+	@example/play.sh example/guests.console
+
+# The lines to come are not the check's to read.
+console:
+	@echo "proving the crates of the program 'console': on a fresh clone some minutes, a line for each as it is proved"
+	@$(call show,rt check console </dev/null,target/console.log)
+	@echo "the console: a command a line, as 'apmask -5' or 'sweep'; the end of the input (Ctrl-D) ends it"
+	@target/bin/console
 
 test:
 	rt ci
@@ -18,19 +28,27 @@ clean:
 	rm -rf target
 
 # The expected output of three programs, and the input of two, was made by these Python programs, which share no code with
-# the library. This shows only that the stored files are still what they make.
+# the library. This shows only that the stored files are still what they make. The answers of the console were worked out by hand,
+# and stand in tests/console.py, which also holds them to the model of the others.
+CONSOLES = console console_1023 console_1024 console_1025 console_5000
+
 expected:
 	@python3 tests/textcases.py | cmp - crates/textcases/stdout && echo "textcases: agrees"
 	@python3 tests/cases.py stdin | cmp - crates/cases/stdin && echo "cases, input: agrees"
 	@python3 tests/cases.py stdout | cmp - crates/cases/stdout && echo "cases: agrees"
 	@python3 tests/lists.py stdin | cmp - crates/lists/stdin && echo "lists, input: agrees"
 	@python3 tests/lists.py stdout | cmp - crates/lists/stdout && echo "lists: agrees"
+	@for c in $(CONSOLES); do \
+	    python3 tests/console.py $$c stdin | cmp - crates/$$c/stdin && echo "$$c, input: agrees" || exit 1; \
+	    python3 tests/console.py $$c stdout | cmp - crates/$$c/stdout && echo "$$c: agrees" || exit 1; \
+	    python3 tests/console.py $$c check && echo "$$c, by the model: agrees" || exit 1; \
+	done
 
 # What follows is outside of the proof. The library is proved first where that is not done yet.
 .PHONY: library install outside bench example
 LIB = target/lib/libzokormendu.a
 # The crates that export functions. `rt staticlib` makes an archive of each one's exports, with one object.
-EXPORTS = c_record c_devices c_assign c_number c_host c_queues c_matrix c_look c_names
+EXPORTS = c_record c_devices c_assign c_number c_host c_queues c_matrix c_look c_line c_names
 
 library: $(LIB)
 
@@ -79,13 +97,20 @@ example: library
 	@diff example-c/guests.expected target/example-c/guests.out && echo "example: agrees"
 
 # The library beside a second implementation of the requirements, on random commands. It goes through the header's inline
-# functions, which header.c gives symbols.
+# functions, which header.c gives symbols. Then the program of the console beside it, on random lines.
 SEED = 1
 SECONDS = 120
+LINES = 100000
 LINK = -L native=target/lib -l static=zokormendu
 
-outside: target/outside/outside
+outside: target/outside/outside target/bin/console
 	target/outside/outside $(SEED) $(SECONDS)
+	target/outside/outside console $(SEED) $(LINES) target/bin/console
+
+target/bin/console: $(shell find crates.txt crates)
+	@echo "making $@: a line for each crate as it is proved"
+	@$(call show,rt check console,target/console.log)
+	@touch $@
 
 target/outside/outside: $(LIB) outside/outside.rs outside/header.c include/zokormendu.h
 	@mkdir -p target/outside
@@ -123,7 +148,7 @@ target/s390x/%/libzokormendu.a: $(shell find crates.txt crates port include outs
 	@echo "$@ is not there, or older than its sources: make s390x makes it"; exit 1
 
 # The translation beside its source, crate by crate, and last the shims, which have none. CRATES="mask rules" shows these alone.
-CRATES = $(shell sed -n 's/^\([a-z_]*\):.*/\1/p' crates.txt) lib
+CRATES = $(shell sed -n 's/^\([a-z0-9_]*\):.*/\1/p' crates.txt) lib
 
 s390x-diff:
 	@rm -rf target/s390x/diff

@@ -57,6 +57,9 @@ libraries! {
         (words: *const u64, drivers: *mut u8, budget: u32, more: *mut u8) -> u32;
     raw_guest_matrix_masks: zk_raw_guest_matrix_masks, port_raw_guest_matrix_masks
         (words: *const u64, drivers: *const u8, id: *const u8, masks: *mut u8) -> u8;
+    raw_line: zk_raw_line, port_raw_line
+        (words: *mut u64, drivers: *mut u8, line: *const u8, length: usize, out: *mut u8, size: usize,
+         written: *mut usize) -> u8;
     raw_matrix: zk_raw_matrix, port_raw_matrix
         (words: *const u64, drivers: *const u8, id: *const u8, place: usize, buffer: *mut u8, length: usize,
          written: *mut usize, next: *mut usize) -> u8;
@@ -81,6 +84,10 @@ impl Mask {
 
     fn set(&mut self, n: u8) {
         self.0[n as usize / 64] |= 1 << (63 - n % 64);
+    }
+
+    fn clear(&mut self, n: u8) {
+        self.0[n as usize / 64] &= !(1 << (63 - n % 64));
     }
 
     fn and(&self, other: &Mask) -> Mask {
@@ -344,6 +351,237 @@ impl Service {
             past = queue + 1;
         }
         (0, written, QUEUES)
+    }
+}
+
+// ---------------------------------------------------------------------------------------------------------------------
+// The same with lines of the console.
+// ---------------------------------------------------------------------------------------------------------------------
+
+fn digit(c: u8) -> Option<u64> {
+    (c as char).to_digit(16).map(u64::from)
+}
+
+fn id_text(text: &[u8]) -> Option<Id> {
+    if text.len() != 32 {
+        return None;
+    }
+    let half = |digits: &[u8]| digits.iter().try_fold(0, |value, &c| Some(value << 4 | digit(c)?));
+    let (hi, lo) = (half(&text[..16])?, half(&text[16..])?);
+    Some(((hi as u128) << 64 | lo as u128).to_be_bytes())
+}
+
+fn hex_mask(text: &[u8]) -> Option<Mask> {
+    let digits = text.strip_prefix(b"0x")?;
+    if digits.is_empty() || digits.len() > 64 {
+        return None;
+    }
+    let mut mask = Mask::NONE;
+    for (k, &c) in digits.iter().enumerate() {
+        mask.0[k / 16] |= digit(c)? << (60 - 4 * (k % 16));
+    }
+    Some(mask)
+}
+
+fn mask_text(text: &[u8], old: &Mask) -> Option<Mask> {
+    if text.starts_with(b"0x") {
+        return hex_mask(text);
+    }
+    let mut mask = *old;
+    for item in text.split(|&c| c == b',') {
+        match item {
+            [b'+', n @ ..] => mask.set(u8::try_from(number(n)?).ok()?),
+            [b'-', n @ ..] => mask.clear(u8::try_from(number(n)?).ok()?),
+            _ => return None,
+        }
+    }
+    Some(mask)
+}
+
+fn config_text(masks: [&[u8]; 3], types: &[u8]) -> Option<[u8; 352]> {
+    let mut bytes = [0; 352];
+    for (k, text) in masks.into_iter().enumerate() {
+        hex_mask(text)?.put_bytes(&mut bytes[32 * k..32 * k + 32]);
+    }
+    if types.len() != 512 {
+        return None;
+    }
+    for (k, pair) in types.chunks_exact(2).enumerate() {
+        bytes[96 + k] = (digit(pair[0])? << 4 | digit(pair[1])?) as u8;
+    }
+    Some(bytes)
+}
+
+fn kind_text(text: &[u8]) -> Option<u8> {
+    match text {
+        b"adapter" => Some(0),
+        b"domain" => Some(1),
+        b"control" => Some(2),
+        _ => None,
+    }
+}
+
+fn errno_name(value: u8) -> &'static str {
+    match value {
+        2 => "ENOENT",
+        16 => "EBUSY",
+        17 => "EEXIST",
+        19 => "ENODEV",
+        28 => "ENOSPC",
+        98 => "EADDRINUSE",
+        99 => "EADDRNOTAVAIL",
+        _ => "EINVAL",
+    }
+}
+
+/// What a line is answered: an errno value or 0, what a move did, or the moves of a sweep.
+enum Said {
+    Answer(u8),
+    Moved(&'static str),
+    Used(u32),
+}
+
+struct Console {
+    service: Service,
+    drivers: Box<[u8; QUEUES]>,
+    open: Vec<Id>,
+}
+
+impl Console {
+    /// Carries out a line, and adds its answer line.
+    #[inline(never)]
+    fn line(&mut self, line: &[u8], out: &mut Vec<u8>) {
+        match self.carry_out(line).unwrap_or(Said::Answer(22)) {
+            Said::Answer(0) => out.extend_from_slice(b"ok"),
+            Said::Answer(errno) => {
+                out.extend_from_slice(b"refused ");
+                out.extend_from_slice(errno_name(errno).as_bytes());
+            }
+            Said::Moved(name) => {
+                out.extend_from_slice(b"ok ");
+                out.extend_from_slice(name.as_bytes());
+            }
+            Said::Used(moves) => out.extend_from_slice(format!("ok {moves}").as_bytes()),
+        }
+        out.push(b'\n');
+    }
+
+    /// Nothing where it is bad text.
+    fn carry_out(&mut self, line: &[u8]) -> Option<Said> {
+        if line.len() > 1_024 || line.contains(&b'\n') {
+            return None;
+        }
+        let mut words: [&[u8]; 5] = [b""; 5];
+        let mut count = 0;
+        for word in line.split(|&c| c == b' ') {
+            *words.get_mut(count)? = word;
+            count += 1;
+        }
+        let answer = match words[..count] {
+            [b"assign", id, kind, n] => {
+                let (id, kind, n) = (id_text(id)?, kind_text(kind)?, number(n)?);
+                self.service.assign_either(&id, kind, n.into())
+            }
+            [b"unassign", id, kind, n] => self.unassign(&id_text(id)?, kind_text(kind)?, number(n)?),
+            [b"move", apid, apqi] => {
+                let (apid, apqi) = (number(apid)?, number(apqi)?);
+                return Some(Said::Moved(self.move_queue(apid.try_into().ok()?, apqi.try_into().ok()?)));
+            }
+            [b"sweep"] => return Some(Said::Used(self.service.sweep(&mut self.drivers, MOST_MOVES).0)),
+            [b"create", id] => self.create(&id_text(id)?),
+            [b"remove", id] => self.remove(&id_text(id)?),
+            [b"open", id] => self.open(&id_text(id)?),
+            [b"close", id] => self.close(&id_text(id)?),
+            [b"apmask", text] => {
+                let new = mask_text(text, &self.service.apmask)?;
+                self.set_masks(new, self.service.aqmask)
+            }
+            [b"aqmask", text] => {
+                let new = mask_text(text, &self.service.aqmask)?;
+                self.set_masks(self.service.apmask, new)
+            }
+            [b"config", adapters, domains, controls, types] => {
+                let bytes = config_text([adapters, domains, controls], types)?;
+                self.service.configure(&mut self.drivers, &bytes)
+            }
+            _ => return None,
+        };
+        Some(Said::Answer(answer))
+    }
+
+    fn unassign(&mut self, id: &Id, kind: u8, n: u16) -> u8 {
+        let Some(i) = self.service.find(id) else { return 2 };
+        let limit = if kind == 0 { self.service.highest_adapter } else { self.service.highest_domain };
+        if n > limit.into() {
+            return 19;
+        }
+        let device = &mut self.service.devices[i];
+        match kind {
+            0 => device.adapters.clear(n as u8),
+            1 => device.domains.clear(n as u8),
+            _ => device.controls.clear(n as u8),
+        }
+        0
+    }
+
+    fn move_queue(&mut self, apid: u8, apqi: u8) -> &'static str {
+        let target = self.service.target(apid, apqi);
+        let driver = &mut self.drivers[apid as usize * 256 + apqi as usize];
+        if *driver == target {
+            return "idle";
+        }
+        *driver = if *driver == UNBOUND { target } else { UNBOUND };
+        ["released", "host", "passthrough"][*driver as usize]
+    }
+
+    fn create(&mut self, id: &Id) -> u8 {
+        if self.service.find(id).is_some() {
+            return 17;
+        }
+        if self.service.devices.len() == 8 {
+            return 28;
+        }
+        self.service.create(id);
+        0
+    }
+
+    fn remove(&mut self, id: &Id) -> u8 {
+        let Some(i) = self.service.find(id) else { return 2 };
+        if self.open.contains(id) {
+            return 16;
+        }
+        self.service.devices.remove(i);
+        0
+    }
+
+    fn open(&mut self, id: &Id) -> u8 {
+        if self.service.find(id).is_none() {
+            return 2;
+        }
+        if self.open.contains(id) {
+            return 16;
+        }
+        self.open.push(*id);
+        0
+    }
+
+    fn close(&mut self, id: &Id) -> u8 {
+        if self.service.find(id).is_none() {
+            return 2;
+        }
+        let Some(k) = self.open.iter().position(|other| other == id) else { return 22 };
+        self.open.remove(k);
+        0
+    }
+
+    fn set_masks(&mut self, apmask: Mask, aqmask: Mask) -> u8 {
+        let taken = |device: &Device| device.adapters.meets(&apmask) && device.domains.meets(&aqmask);
+        if self.service.devices.iter().any(taken) {
+            return 98;
+        }
+        self.service.apmask = apmask;
+        self.service.aqmask = aqmask;
+        0
     }
 }
 
@@ -614,14 +852,8 @@ impl<const PORT: bool> Record<PORT> {
 /// ask for domains. The two of a pair hold the same numbers, so what one has of the other kind is in use for the other.
 /// Numbers from 170 on are in both host masks, and what the devices hold is such, so asking for another of them meets a
 /// reserved queue. Of the others, 0 to 42 are assigned to the first of a pair and 43 to 84 to the second; 85 to 169 are
-/// free, and a batch asks for each of them once, for one of the two.
-///
-/// So a batch of 1,000 has 340 accepted (all of them new: four pairs of 85), 330 refused with 98 and 330 with 99. Before
-/// each of 1,000 batches the sides go back to the state at the start, outside of the timed part.
-///
-/// With BY_NUMBER the same commands are given the number itself.
-fn assigns<const BY_NUMBER: bool>() {
-    let mut sides = Sides::new();
+/// free.
+fn pairs(sides: &mut Sides) {
     let mut host = Mask::NONE;
     (170..=255).for_each(|n| host.set(n));
     sides.set_masks(host, host);
@@ -637,7 +869,17 @@ fn assigns<const BY_NUMBER: bool>() {
         }
     }
     sides.assert_same();
+}
 
+/// A batch asks for each of the free numbers once in a pair, for one of the two.
+///
+/// So a batch of 1,000 has 340 accepted (all of them new: four pairs of 85), 330 refused with 98 and 330 with 99. Before
+/// each of 1,000 batches the sides go back to the state at the start, outside of the timed part.
+///
+/// With BY_NUMBER the same commands are given the number itself.
+fn assigns<const BY_NUMBER: bool>() {
+    let mut sides = Sides::new();
+    pairs(&mut sides);
     let mut random = Random(12_345);
     let mut commands = Vec::with_capacity(BATCHES * BATCH);
     for _ in 0..BATCHES {
@@ -711,7 +953,125 @@ fn assigns<const BY_NUMBER: bool>() {
 }
 
 // ---------------------------------------------------------------------------------------------------------------------
-// (b) to (e).
+// (b) A million lines of the console.
+// ---------------------------------------------------------------------------------------------------------------------
+
+/// The longest answer line.
+const ANSWER_BYTES: usize = 22;
+
+impl<const PORT: bool> Record<PORT> {
+    /// The time of a batch of lines, after going back to the record at the start. The answer lines follow each other.
+    fn lines(&mut self, start: &(Vec<u64>, Vec<u8>), batch: &[Vec<u8>], out: &mut Vec<u8>) -> Duration {
+        self.words.copy_from_slice(&start.0);
+        self.drivers.copy_from_slice(&start.1);
+        out.resize(BATCH * ANSWER_BYTES, 0);
+        let ((words, drivers), mut at, mut refused) = (self.lend(), 0, 0);
+        let time = timed(|| {
+            for line in batch {
+                let (text, length, mut written) = (black_box(line).as_ptr(), line.len(), 0);
+                let (place, size) = (out[at..].as_mut_ptr(), out.len() - at);
+                refused |= unsafe { Self::raw_line(words, drivers, text, length, place, size, &mut written) };
+                at += written;
+            }
+        });
+        assert_eq!(refused, 0);
+        out.truncate(at);
+        time
+    }
+}
+
+/// A number in one of the forms.
+fn spelled(random: &mut Random, n: usize) -> String {
+    match random.below(4) {
+        0 | 1 => format!("{n}"),
+        2 => format!("0x{n:x}"),
+        _ => format!("0{n:o}"),
+    }
+}
+
+/// Lines on the devices of `pairs`: an assignment, an unassignment and a move in turn. Of the assignments, a third asks for
+/// free numbers, a third for numbers of the other device of a pair, a third for reserved ones. Unassignments are of numbers
+/// that are free at the start, so that some were assigned before; one in four is of no device, of a number above the limit,
+/// or bad text. Moves are of few queues, half of which are due for two moves; one in eight has a number above 255.
+fn some_line(random: &mut Random, k: usize) -> Vec<u8> {
+    let id = |device: usize| device_id(device as u8).map(|byte| format!("{byte:02x}")).concat();
+    let kind = |device: usize| if device >= 4 { "domain" } else { "adapter" };
+    let (pair, which) = (random.below(4), random.below(2));
+    let device = 2 * pair + which;
+    let line = match k % 3 {
+        0 => {
+            let n = match random.below(3) {
+                0 => 85 + random.below(85),
+                1 if which == 0 => 43 + random.below(42),
+                1 => random.below(43),
+                _ => 170 + random.below(86),
+            };
+            format!("assign {} {} {}", id(device), kind(device), spelled(random, n))
+        }
+        1 => {
+            let (n, case) = (85 + random.below(85), random.below(12));
+            let name = if case == 0 { id(8) } else { id(device) };
+            let text = spelled(random, if case == 1 { 256 + n } else { n });
+            let comma = if case == 2 { "," } else { "" };
+            format!("unassign {name} {} {text}{comma}", kind(device))
+        }
+        _ => {
+            let a = if which == 0 { random.below(16) } else { 170 + random.below(16) };
+            let d = [4, 180, 200, 255][pair];
+            let above = if random.below(8) == 0 { 256 } else { 0 };
+            format!("move {} {}", spelled(random, a), spelled(random, above + d))
+        }
+    };
+    line.into_bytes()
+}
+
+fn console_lines() {
+    let mut sides = Sides::new();
+    sides.configure(&configuration(Mask::ALL, Mask::ALL, 10));
+    sides.set_masks(EVERY_OTHER, Mask::ALL);
+    sides.sweep();
+    // with other host masks moves are due
+    pairs(&mut sides);
+    let mut random = Random(54_321);
+    let lines: Vec<Vec<u8>> = (0..BATCHES * BATCH).map(|k| some_line(&mut random, k)).collect();
+
+    let kit = (sides.kit.words.clone(), sides.kit.drivers.clone());
+    let port = (sides.port.words.clone(), sides.port.drivers.clone());
+    let mut console = Console { service: sides.service.clone(), drivers: sides.other.clone(), open: Vec::new() };
+    let mut outs: [Vec<u8>; 3] = std::array::from_fn(|_| Vec::with_capacity(BATCH * ANSWER_BYTES));
+    let mut counts = [0; 2];
+    let times = best(7, || {
+        let mut times = [Duration::ZERO; 3];
+        counts = [0; 2];
+        for (k, batch) in lines.chunks(BATCH).enumerate() {
+            for side in [k % 3, (k + 1) % 3, (k + 2) % 3] {
+                let out = &mut outs[side];
+                times[side] += match side {
+                    0 => sides.kit.lines(&kit, batch, out),
+                    1 => sides.port.lines(&port, batch, out),
+                    _ => {
+                        console.service.devices.clone_from(&sides.service.devices);
+                        console.drivers.copy_from_slice(&sides.other[..]);
+                        out.clear();
+                        timed(|| batch.iter().for_each(|line| console.line(black_box(line), out)))
+                    }
+                };
+            }
+            assert!(outs[0] == outs[2] && outs[1] == outs[2], "answers differ");
+            let refused = outs[2].split(|&c| c == b'\n').filter(|answer| answer.starts_with(b"refused ")).count();
+            counts = [counts[0] + BATCH - refused, counts[1] + refused];
+        }
+        sides.kit.assert_same(&console.service, &console.drivers);
+        sides.port.assert_same(&console.service, &console.drivers);
+        times
+    });
+    assert!(counts.iter().all(|&n| n >= 300_000));
+    let name = format!("line of the console: {} accepted, {} refused", counts[0], counts[1]);
+    show(&name, (BATCHES * BATCH) as u32, times);
+}
+
+// ---------------------------------------------------------------------------------------------------------------------
+// (c) to (f).
 // ---------------------------------------------------------------------------------------------------------------------
 
 const EVERY_OTHER: Mask = Mask([0xaaaa_aaaa_aaaa_aaaa; 4]);
@@ -836,6 +1196,7 @@ fn guest_masks() {
 fn main() {
     assigns::<false>();
     assigns::<true>();
+    console_lines();
     configures();
     sweeps();
     listings();

@@ -86,6 +86,7 @@ extern "C" {
 #define ZK_LINE_BYTES 8               /* a line of a matrix: aa.dddd and a newline */
 #define ZK_CONTROL_DOMAINS_BYTES 1280 /* the longest list of control domains: 256 lines of dddd and a newline */
 #define ZK_NAME_BYTES 14              /* a name as a C string */
+#define ZK_ANSWER_BYTES 22            /* the longest answer line: refused EADDRNOTAVAIL and a newline */
 #define ZK_MOST_MOVES 131072          /* what a sweep can need; a larger budget is taken as this */
 
 /* The refusals. */
@@ -94,7 +95,7 @@ extern "C" {
 #define ZK_EEXIST 17        /* create of a present id */
 #define ZK_ENODEV 19        /* a number or bit above its limit */
 #define ZK_EINVAL 22        /* bad text; a limit above 255; close of a device that is not open */
-#define ZK_ENOSPC 28        /* every slot is taken; a listing buffer under ZK_LINE_BYTES */
+#define ZK_ENOSPC 28        /* every slot is taken; a buffer under ZK_LINE_BYTES, of zk_line under ZK_ANSWER_BYTES */
 #define ZK_EADDRINUSE 98    /* another device has the queue, or a new mask would reserve one that a device has */
 #define ZK_EADDRNOTAVAIL 99 /* a queue is reserved */
 
@@ -184,6 +185,8 @@ uint8_t zk_raw_highest_domain(const uint64_t *words, const uint8_t *drivers);
 void zk_raw_apmask(const uint64_t *words, const uint8_t *drivers, uint8_t *mask);
 void zk_raw_aqmask(const uint64_t *words, const uint8_t *drivers, uint8_t *mask);
 void zk_raw_configuration(const uint64_t *words, const uint8_t *drivers, uint8_t *configuration);
+uint8_t zk_raw_line(uint64_t *words, uint8_t *drivers, const uint8_t *line, size_t length, uint8_t *out, size_t size,
+                    size_t *written);
 size_t zk_raw_errno_name(uint64_t value, uint8_t *name);
 size_t zk_raw_moved_name(uint64_t value, uint8_t *name);
 
@@ -447,6 +450,34 @@ static inline int zk_control_domains(const struct zk_record *record, const uint8
                                      char text[ZK_CONTROL_DOMAINS_BYTES], size_t *written)
 {
     return zk_raw_control_domains(record->words, record->drivers, id, (uint8_t *)text, written);
+}
+
+/* ---- the console ---- */
+
+/*
+ * Carries out a line of the console, given without its newline, and writes its answer line, with its newline; 0, also
+ * where that line says refused, or ENOSPC. Words are parted by one space:
+ *     create ID        remove ID        open ID        close ID
+ *     assign ID adapter NUMBER          assign ID domain NUMBER          assign ID control NUMBER
+ *     unassign ID ...                   as assign
+ *     apmask MASK      aqmask MASK
+ *     config MASK MASK MASK TYPES       adapters, usage domains, control domains, each in hex form; then 512 hex digits,
+ *                                       two for each adapter from 0
+ *     move APID APQI                    two numbers of at most 255
+ *     sweep                             with a budget of ZK_MOST_MOVES
+ * An ID is 32 hex digits; a NUMBER and a MASK are the texts above, but no newline may end them. The answer line is
+ *     ok                                of a command
+ *     ok idle                           of a move: idle, released, host or passthrough
+ *     ok 8                              of a sweep: the moves made
+ *     refused EINVAL                    the name of a refusal; this one also for bad text
+ * A line of more than 1024 bytes, or that holds a newline, is bad text. *written is the length of the answer line; the
+ * bytes after it stay as they were. Where size is under ZK_ANSWER_BYTES the call is refused ENOSPC, whatever the line, and
+ * the line is not carried out.
+ */
+static inline int zk_line(struct zk_record *record, const char *line, size_t length, char *out, size_t size,
+                          size_t *written)
+{
+    return zk_raw_line(record->words, record->drivers, (const uint8_t *)line, length, (uint8_t *)out, size, written);
 }
 
 /* ---- names ---- */

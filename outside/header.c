@@ -87,6 +87,11 @@ TWIN(int, guest_matrix,
 TWIN(int, control_domains, (const struct zk_record *record, const uint8_t *id, char *text, size_t *written),
      (record, id, text, written))
 
+/* The console. */
+TWIN(int, line,
+     (struct zk_record *record, const char *line, size_t length, char *out, size_t size, size_t *written),
+     (record, line, length, out, size, written))
+
 /* Names. */
 TWIN(const char *, errno_name, (int value, char *name), (value, name))
 TWIN(const char *, moved_name, (int moved, char *name), (moved, name))

@@ -5,11 +5,20 @@
 //!
 //! Arguments: the seed (default 1), the limit in seconds (default 120), and the most steps (default none).
 //! The same seed makes the same steps; the limits only end the run. Exit status 0: nothing differed, and each of the eight
-//! refusals was met, and each that an assignment by number can have.
+//! refusals was met, also by a line of the console, and each that an assignment by number can have.
+//!
+//! With `console`, a seed, a number of lines (default 100,000) and a path (default target/bin/console) it starts that
+//! program instead, and compares its answers with the second implementation's: to a random input that is written in random
+//! parts, to short inputs, and in a dialogue, where each answer is awaited before the next line is sent. Exit status 0:
+//! nothing differed, and each form of an answer was met.
 
 use std::collections::BTreeMap;
 use std::fmt;
+use std::io::{Read, Write};
 use std::os::raw::c_int;
+use std::process::{Child, ChildStdin, Command, Stdio};
+use std::sync::mpsc::{channel, Receiver, RecvTimeoutError};
+use std::thread;
 use std::time::{Duration, Instant};
 
 const WORDS: usize = 406;
@@ -19,6 +28,9 @@ const MASKS_BYTES: usize = 96;
 const CONFIG_BYTES: usize = 352;
 const CONTROLS_BYTES: usize = 1_280;
 const NAME_BYTES: usize = 14;
+/// The most bytes of a line of the console, and the bytes of its longest answer line.
+const LINE_BYTES: usize = 1_024;
+const ANSWER_BYTES: usize = 22;
 const NAMES: [(u8, &str); 8] = [
     (2, "ENOENT"),
     (16, "EBUSY"),
@@ -48,6 +60,8 @@ const ADAPTER: usize = 0;
 const DOMAIN: usize = 1;
 const CONTROL: usize = 2;
 const KINDS: [&str; 3] = ["adapter", "domain", "control domain"];
+/// The same at the console.
+const KIND_WORDS: [&str; 3] = ["adapter", "domain", "control"];
 
 /// The two matrices of a device.
 const ASSIGNED: usize = 0;
@@ -153,6 +167,35 @@ fn mask(text: &[u8], old: &Set) -> Option<Set> {
         };
     }
     Some(set)
+}
+
+/// The id of 32 hex digits, or nothing where the text is bad.
+fn id_text(text: &[u8]) -> Option<Id> {
+    if text.len() != 32 {
+        return None;
+    }
+    let mut id = [0; 16];
+    for (k, &c) in text.iter().enumerate() {
+        id[k / 2] = id[k / 2] << 4 | (c as char).to_digit(16)? as u8;
+    }
+    Some(id)
+}
+
+/// The configuration of three masks in hex form and 512 hex digits, or nothing where the text is bad.
+fn configuration_text(masks: [&[u8]; 3], types: &[u8]) -> Option<Vec<u8>> {
+    let mut bytes = Vec::new();
+    for text in masks {
+        text.strip_prefix(b"0x")?;
+        bytes.extend(mask(text, &Set::NONE)?.bytes());
+    }
+    if types.len() != 512 {
+        return None;
+    }
+    for pair in types.chunks(2) {
+        let digits = [(pair[0] as char).to_digit(16)?, (pair[1] as char).to_digit(16)?];
+        bytes.push((16 * digits[0] + digits[1]) as u8);
+    }
+    Some(bytes)
 }
 
 #[derive(Clone, Copy, PartialEq, Debug)]
@@ -581,6 +624,56 @@ impl Record {
         }
         Listing { answer: 0, bytes, next: QUEUES }
     }
+
+    /// Carries out a line of the console. Answers its answer line, without the newline.
+    fn console(&mut self, line: &[u8]) -> String {
+        let words: Vec<&[u8]> = line.split(|&c| c == b' ').collect();
+        let answer = match words[..] {
+            // a text may end with a newline, but a line holds none
+            _ if line.len() > LINE_BYTES || line.contains(&b'\n') => 22,
+            [b"create", id] => id_text(id).map_or(22, |id| self.create(&id)),
+            [b"remove", id] => id_text(id).map_or(22, |id| self.remove(&id)),
+            [b"open", id] => id_text(id).map_or(22, |id| self.open(&id)),
+            [b"close", id] => id_text(id).map_or(22, |id| self.close(&id)),
+            [word @ (b"assign" | b"unassign"), id, kind, text] => {
+                let kind = KIND_WORDS.iter().position(|word| word.as_bytes() == kind);
+                match (id_text(id), kind) {
+                    (Some(id), Some(kind)) if word == b"assign" => self.assign(&id, kind, text),
+                    (Some(id), Some(kind)) => self.unassign(&id, kind, text),
+                    _ => 22,
+                }
+            }
+            [b"apmask", text] => self.set_apmask(text),
+            [b"aqmask", text] => self.set_aqmask(text),
+            [b"config", adapters, domains, controls, types] => {
+                let bytes = configuration_text([adapters, domains, controls], types);
+                bytes.map_or(22, |bytes| self.configure(&bytes))
+            }
+            [b"move", apid, apqi] => match (number(apid, 255), number(apqi, 255)) {
+                (Some(a), Some(d)) => {
+                    let moved = self.move_queue(a as usize, d as usize);
+                    return format!("ok {}", MOVED[moved as usize].1);
+                }
+                _ => 22,
+            },
+            [b"sweep"] => return format!("ok {}", self.sweep(131_072).0),
+            _ => 22,
+        };
+        match NAMES.iter().find(|(value, _)| *value == answer) {
+            None => "ok".into(),
+            Some((_, name)) => format!("refused {name}"),
+        }
+    }
+
+    /// The answer lines to the lines of an input, of which the last may lack its newline.
+    fn console_input(&mut self, input: &[u8]) -> Vec<String> {
+        let mut lines: Vec<&[u8]> = input.split(|&c| c == b'\n').collect();
+        // what follows the last newline counts unless it is empty
+        if lines.last().map_or(false, |line| line.is_empty()) {
+            lines.pop();
+        }
+        lines.iter().map(|line| self.console(line)).collect()
+    }
 }
 
 fn halves(id: &Id) -> (u64, u64) {
@@ -663,6 +756,14 @@ mod library {
             record: *const Memory,
             id: *const u8,
             text: *mut u8,
+            written: *mut usize,
+        ) -> c_int;
+        pub fn header_line(
+            record: *mut Memory,
+            line: *const u8,
+            length: usize,
+            out: *mut u8,
+            size: usize,
             written: *mut usize,
         ) -> c_int;
         pub fn header_errno_name(value: c_int, name: *mut u8) -> *const u8;
@@ -777,11 +878,16 @@ enum Call {
     Configure(Vec<u8>),
     Move(u8, u8),
     Sweep(u32),
+    /// A line of the console, and the size of the buffer for its answer line.
+    Line(Vec<u8>, usize),
+}
+
+fn hex(bytes: &[u8]) -> String {
+    bytes.iter().map(|b| format!("{b:02x}")).collect()
 }
 
 impl fmt::Display for Call {
     fn fmt(&self, f: &mut fmt::Formatter) -> fmt::Result {
-        let hex = |bytes: &[u8]| bytes.iter().map(|b| format!("{b:02x}")).collect::<String>();
         match self {
             Call::Fresh(a, d) => write!(f, "fresh {a} {d}"),
             Call::Create(id) => write!(f, "create {}", hex(id)),
@@ -801,6 +907,7 @@ impl fmt::Display for Call {
             Call::Configure(bytes) => write!(f, "configure {}", hex(bytes)),
             Call::Move(apid, apqi) => write!(f, "move {apid} {apqi}"),
             Call::Sweep(budget) => write!(f, "sweep {budget}"),
+            Call::Line(line, size) => write!(f, "line \"{}\", {size} bytes for its answer", line.escape_ascii()),
         }
     }
 }
@@ -822,6 +929,10 @@ struct Run {
     moves: [u64; 4],
     sweeps: u64,
     swept: u64,
+    /// The last answer line of the console, without its newline.
+    said: String,
+    /// How often each form of it was given, and how often a line was not carried out.
+    lines: BTreeMap<String, u64>,
     /// How often each reader gave each answer. A name counts as 1. What is not of a few values counts as 0.
     asked: BTreeMap<&'static str, BTreeMap<c_int, u64>>,
     fresh: u64,
@@ -835,6 +946,27 @@ fn equal<T: PartialEq + fmt::Debug>(name: &str, got: T, expected: T) -> Result<(
     } else {
         Err(format!("{name}: {got:?}, expected {expected:?}"))
     }
+}
+
+const NOT_CARRIED_OUT: &str = "not carried out";
+
+/// The form of an answer line: the numbers of sweeps are one, but for 0.
+fn form(said: &str) -> String {
+    match said {
+        "" => NOT_CARRIED_OUT.into(),
+        "ok 0" => said.into(),
+        _ if said.ends_with(|c: char| c.is_ascii_digit()) => "ok and a number".into(),
+        _ => said.into(),
+    }
+}
+
+/// The forms of an answer line that were not met.
+fn forms_missing(met: &BTreeMap<String, u64>) -> Vec<String> {
+    let mut forms: Vec<String> = vec!["ok".into(), "ok 0".into(), "ok and a number".into()];
+    forms.extend(MOVED.iter().map(|(_, name)| format!("ok {name}")));
+    forms.extend(NAMES.iter().map(|(_, name)| format!("refused {name}")));
+    forms.retain(|form| !met.contains_key(form));
+    forms
 }
 
 /// Two of equal length.
@@ -869,6 +1001,8 @@ impl Run {
             moves: [0; 4],
             sweeps: 0,
             swept: 0,
+            said: String::new(),
+            lines: BTreeMap::new(),
             asked: BTreeMap::new(),
             fresh: 0,
             handed_in: 0,
@@ -1006,6 +1140,19 @@ impl Run {
                 more.compare("more", &[any as u8], &mut self.hash)?;
                 (got.into(), used.into())
             }
+            Call::Line(line, size) => {
+                let (mut out, mut written) = (self.lend_junk(*size), self.lend_size());
+                let got = self.lending(line, |r, text| unsafe {
+                    library::header_line(r, text, line.len(), out.lend(), *size, written.lend())
+                })?;
+                // without room for the longest answer the line is not carried out
+                let carried = *size >= ANSWER_BYTES;
+                self.said = if carried { self.record.console(line) } else { String::new() };
+                let answer = if carried { format!("{}\n", self.said) } else { String::new() };
+                out.compare("answer line: byte", answer.as_bytes(), &mut self.hash)?;
+                written.compare("answer line: written", &[answer.len()][..carried as usize], &mut self.hash)?;
+                (got.into(), if carried { 0 } else { 28 })
+            }
         };
         self.hash.add(got as u64);
         self.hash_memory();
@@ -1017,6 +1164,7 @@ impl Run {
                 self.sweeps += 1;
                 self.swept += got as u64;
             }
+            Call::Line(..) => *self.lines.entry(form(&self.said)).or_default() += 1,
             _ if got == 0 => self.accepted += 1,
             _ => self.refused[got as usize] += 1,
         }
@@ -1642,55 +1790,232 @@ fn any_record(random: &mut Random, pool: &Pool) -> (Vec<u64>, Vec<u8>) {
     (words, drivers)
 }
 
-impl Run {
-    fn random_call(&mut self, pool: &Pool) -> Call {
-        let random = &mut self.random;
-        let id = pool.id(random, &self.record);
-        // with few devices there is little to meet
-        if self.record.devices.iter().filter(|v| v.present != 0).count() < 3 && random.one_in(3) {
-            return Call::Create(*random.pick(&pool.ids));
-        }
-        match random.below(1_000) {
-            0..=59 => Call::Create(*random.pick(&pool.ids)),
-            60..=84 => Call::Remove(id),
-            85..=139 => Call::Open(id),
-            140..=184 => Call::Close(id),
-            185..=724 => {
-                let kind = *random.pick(&[ADAPTER, ADAPTER, DOMAIN, DOMAIN, CONTROL]);
-                let highest = self.record.highest(kind);
-                let host = if kind == ADAPTER { &self.record.apmask } else { &self.record.aqmask };
-                let n = random.below(256) as u8;
-                let value = match random.below(5) {
-                    // of the host's numbers, so that reserved queues are asked for
-                    0 if host.has(n as usize) => some_number(random, &[n], highest),
-                    _ => some_number(random, &pool.numbers[kind.min(DOMAIN)], highest),
-                };
-                // taken away less often than given, so that products grow
-                match (random.one_in(3), random.one_in(4)) {
-                    (false, false) => Call::Assign(id, kind, number_text(random, value)),
-                    (false, true) => Call::Unassign(id, kind, number_text(random, value)),
-                    (true, false) => Call::AssignNumber(id, kind, value),
-                    (true, true) => Call::UnassignNumber(id, kind, value),
-                }
-            }
-            725..=764 => Call::Apmask(mask_text(random, &pool.numbers[ADAPTER], pool.plus)),
-            765..=804 => Call::Aqmask(mask_text(random, &pool.numbers[DOMAIN], pool.plus)),
-            805..=824 => Call::Configure(configuration(random, pool, &self.record)),
-            825..=834 => Call::Sweep(budget(random)),
-            835 => {
-                let mut limits = [limit(random), limit(random)];
-                if random.one_in(2) {
-                    limits[random.below(2) as usize] = odd_value(random);
-                }
-                Call::Fresh(limits[0], limits[1])
-            }
-            _ => {
-                let queue = pool.due_queue(random, &self.record);
-                Call::Move((queue / 256) as u8, (queue % 256) as u8)
-            }
+/// Hex digits of either case.
+fn spell_hex(random: &mut Random, bytes: &[u8]) -> Vec<u8> {
+    let mut digits = hex(bytes).into_bytes();
+    if random.one_in(3) {
+        digits.iter_mut().filter(|_| random.one_in(2)).for_each(|c| c.make_ascii_uppercase());
+    }
+    digits
+}
+
+/// A mask in hex form, often without the zeros on its right.
+fn spell_mask(random: &mut Random, bytes: &[u8]) -> Vec<u8> {
+    let mut digits = spell_hex(random, bytes);
+    if random.one_in(2) {
+        while digits.len() > 1 && digits.ends_with(b"0") && !random.one_in(40) {
+            digits.pop();
         }
     }
+    [b"0x".to_vec(), digits].concat()
+}
 
+/// A text as a word of a line, mostly without a newline at its end.
+fn as_word(random: &mut Random, text: &[u8]) -> Vec<u8> {
+    let keep = random.one_in(40);
+    (if keep { text } else { without_newline(text) }).to_vec()
+}
+
+/// A number of a move, now and then one above 255.
+fn move_number(random: &mut Random, n: u8) -> Vec<u8> {
+    let value = match random.below(30) {
+        0 => 256 + u64::from(n),
+        1 => *random.pick(&[256, 257, 65_535, 65_536]),
+        _ => n.into(),
+    };
+    let text = number_text(random, value);
+    as_word(random, &text)
+}
+
+/// A call as a line of the console. One that the console has not is a line too, which is bad text.
+fn spell_line(random: &mut Random, call: &Call) -> Vec<u8> {
+    let word = |word: &str| word.as_bytes().to_vec();
+    let words = match call {
+        Call::Create(id) => vec![word("create"), spell_hex(random, id)],
+        Call::Remove(id) => vec![word("remove"), spell_hex(random, id)],
+        Call::Open(id) => vec![word("open"), spell_hex(random, id)],
+        Call::Close(id) => vec![word("close"), spell_hex(random, id)],
+        Call::Assign(id, kind, text) => {
+            vec![word("assign"), spell_hex(random, id), word(KIND_WORDS[*kind]), as_word(random, text)]
+        }
+        Call::Unassign(id, kind, text) => {
+            vec![word("unassign"), spell_hex(random, id), word(KIND_WORDS[*kind]), as_word(random, text)]
+        }
+        Call::AssignNumber(id, kind, n) => {
+            vec![word("assign"), spell_hex(random, id), word(KIND_WORDS[*kind]), spell(random, *n).into_bytes()]
+        }
+        Call::UnassignNumber(id, kind, n) => {
+            vec![word("unassign"), spell_hex(random, id), word(KIND_WORDS[*kind]), spell(random, *n).into_bytes()]
+        }
+        Call::Apmask(text) => vec![word("apmask"), as_word(random, text)],
+        Call::Aqmask(text) => vec![word("aqmask"), as_word(random, text)],
+        Call::Configure(bytes) => {
+            let mut words = vec![word("config")];
+            words.extend(bytes[..MASKS_BYTES].chunks(32).map(|mask| spell_mask(random, mask)));
+            words.push(spell_hex(random, &bytes[MASKS_BYTES..]));
+            words
+        }
+        Call::Move(apid, apqi) => vec![word("move"), move_number(random, *apid), move_number(random, *apqi)],
+        Call::Sweep(_) => vec![word("sweep")],
+        Call::Fresh(..) | Call::Line(..) => vec![word(&call.to_string())],
+    };
+    words.join(&b' ')
+}
+
+/// Damages a line: its words, the spaces between them, or any byte. It may be good afterwards.
+fn damage_line(random: &mut Random, line: &mut Vec<u8>) {
+    let mut words: Vec<Vec<u8>> = line.split(|&c| c == b' ').map(|word| word.to_vec()).collect();
+    let (one, other) = (random.below(words.len() as u64) as usize, random.below(words.len() as u64) as usize);
+    let at = random.below(line.len() as u64 + 1) as usize;
+    let known = "create remove open close assign unassign adapter domain control apmask aqmask config move sweep ";
+    let known: Vec<&str> = known.split(' ').collect();
+    let known = random.pick(&known).as_bytes();
+    match random.below(18) {
+        0 => line.insert(at, b' '),
+        1 => line.insert(0, b' '),
+        2 => line.push(b' '),
+        3 => line.insert(at, *random.pick(b"\n\r\t\0 \x0b\x7f\x80\xa0\xff")),
+        4 => line.push(*random.pick(b"\n\r\t\0 ")),
+        5 => line.insert(at, random.next() as u8),
+        6 if at < line.len() => line[at] = random.next() as u8,
+        7 if at < line.len() => {
+            line.remove(at);
+        }
+        8 => line.truncate(at),
+        9 => line.clear(),
+        10 => line.extend(vec![*random.pick(b" x0\0"); random.below(1_200) as usize]),
+        11 if at < line.len() => line[at] ^= 0x20,
+        kind => {
+            match kind {
+                12 => drop(words.remove(one)),
+                13 => words.insert(one, words[other].clone()),
+                14 => words.swap(one, other),
+                15 => words[one] = known.to_vec(),
+                16 => damage(random, &mut words[one]),
+                _ => words.push(known.to_vec()),
+            }
+            *line = words.join(&b' ');
+        }
+    }
+}
+
+/// A mask whose list fills a line of some length to the byte. It is good but for the length.
+fn filled_line(random: &mut Random, pool: &Pool, length: usize) -> Vec<u8> {
+    let kind = random.below(2) as usize;
+    let mut line = [&b"apmask "[..], b"aqmask "][kind].to_vec();
+    let mut item = |line: &mut Vec<u8>, digits: Option<usize>| {
+        line.push(if random.below(10) < pool.plus { b'+' } else { b'-' });
+        let value = u64::from(*random.pick(&pool.numbers[kind]));
+        match digits {
+            None => line.extend(spell_item(random, value)),
+            // octal, with a zero in front, as there are at least 4 digits
+            Some(digits) => line.extend(format!("{value:0digits$o}").bytes()),
+        }
+    };
+    // what is left at the end is a comma, a sign and 4 to 16 digits
+    while line.len() + 2 + 16 < length {
+        let (before, first) = (line.len(), line.ends_with(b" "));
+        if !first {
+            line.push(b',');
+        }
+        item(&mut line, None);
+        if line.len() + 2 + 4 > length {
+            line.truncate(before);
+        }
+    }
+    if !line.ends_with(b" ") {
+        line.push(b',');
+    }
+    let digits = length - line.len() - 1;
+    item(&mut line, Some(digits));
+    line
+}
+
+/// A line of the console, mostly a good one.
+fn some_line(random: &mut Random, record: &Record, pool: &Pool) -> Vec<u8> {
+    match random.below(1_000) {
+        0..=9 => {
+            let near = 1_020 + random.below(9) as usize;
+            let length = *random.pick(&[near, near, near, 1_023, 1_024, 1_025, 2_048, 5_000]);
+            filled_line(random, pool, length)
+        }
+        10 if random.one_in(20) => {
+            let length = 1_000_000 + random.below(100_000) as usize;
+            vec![*random.pick(b" x,0\0\xff"); length]
+        }
+        11..=14 => (0..random.below(50)).map(|_| random.next() as u8).collect(),
+        15..=17 => Vec::new(),
+        _ => {
+            let call = random_call(random, record, pool);
+            let mut line = spell_line(random, &call);
+            if random.one_in(10) {
+                damage_line(random, &mut line);
+            }
+            line
+        }
+    }
+}
+
+/// The size of a buffer for an answer line.
+fn answer_size(random: &mut Random) -> usize {
+    let size = match random.below(10) {
+        0 => random.below(44),
+        1 => 20 + random.below(5),
+        2 => random.below(5_000),
+        _ => 22 + random.below(3),
+    };
+    size as usize
+}
+
+/// A command, a move or a sweep.
+fn random_call(random: &mut Random, record: &Record, pool: &Pool) -> Call {
+    let id = pool.id(random, record);
+    // with few devices there is little to meet
+    if record.devices.iter().filter(|v| v.present != 0).count() < 3 && random.one_in(3) {
+        return Call::Create(*random.pick(&pool.ids));
+    }
+    match random.below(1_000) {
+        0..=59 => Call::Create(*random.pick(&pool.ids)),
+        60..=84 => Call::Remove(id),
+        85..=139 => Call::Open(id),
+        140..=184 => Call::Close(id),
+        185..=724 => {
+            let kind = *random.pick(&[ADAPTER, ADAPTER, DOMAIN, DOMAIN, CONTROL]);
+            let highest = record.highest(kind);
+            let host = if kind == ADAPTER { &record.apmask } else { &record.aqmask };
+            let n = random.below(256) as u8;
+            let value = match random.below(5) {
+                // of the host's numbers, so that reserved queues are asked for
+                0 if host.has(n as usize) => some_number(random, &[n], highest),
+                _ => some_number(random, &pool.numbers[kind.min(DOMAIN)], highest),
+            };
+            // taken away less often than given, so that products grow
+            match (random.one_in(3), random.one_in(4)) {
+                (false, false) => Call::Assign(id, kind, number_text(random, value)),
+                (false, true) => Call::Unassign(id, kind, number_text(random, value)),
+                (true, false) => Call::AssignNumber(id, kind, value),
+                (true, true) => Call::UnassignNumber(id, kind, value),
+            }
+        }
+        725..=764 => Call::Apmask(mask_text(random, &pool.numbers[ADAPTER], pool.plus)),
+        765..=804 => Call::Aqmask(mask_text(random, &pool.numbers[DOMAIN], pool.plus)),
+        805..=824 => Call::Configure(configuration(random, pool, record)),
+        825..=834 => Call::Sweep(budget(random)),
+        835 => {
+            let mut limits = [limit(random), limit(random)];
+            if random.one_in(2) {
+                limits[random.below(2) as usize] = odd_value(random);
+            }
+            Call::Fresh(limits[0], limits[1])
+        }
+        _ => {
+            let queue = pool.due_queue(random, record);
+            Call::Move((queue / 256) as u8, (queue % 256) as u8)
+        }
+    }
+}
+
+impl Run {
     /// Starts another record: a fresh one, or one with any contents.
     fn start(&mut self) -> Result<Pool, String> {
         // what was only read since the last call is about to be lost
@@ -1738,7 +2063,12 @@ impl Run {
         if self.random.one_in(400) {
             self.poke()?;
         }
-        let call = self.random_call(pool);
+        let random = &mut self.random;
+        let call = if random.one_in(4) {
+            Call::Line(some_line(random, &self.record, pool), answer_size(random))
+        } else {
+            random_call(random, &self.record, pool)
+        };
         self.call(&call)?;
         Ok(())
     }
@@ -1839,6 +2169,15 @@ impl Run {
                         let text = spell(&mut self.random, n).into_bytes();
                         let by_number = if n > limit { 19 } else { 0 };
                         let by_text = if text.len() > 16 { 22 } else { by_number };
+                        let words = [&hex(&id), KIND_WORDS[kind], std::str::from_utf8(&text).unwrap()].join(" ");
+                        let said = match by_text {
+                            0 => "ok",
+                            19 => "refused ENODEV",
+                            _ => "refused EINVAL",
+                        };
+                        for word in ["assign", "unassign"] {
+                            self.says(&format!("{word} {words}"), said)?;
+                        }
                         for (call, expected) in [
                             (Call::Assign(id, kind, text.clone()), by_text),
                             (Call::Unassign(id, kind, text), by_text),
@@ -1853,8 +2192,11 @@ impl Run {
                         let mut bytes = vec![0; CONFIG_BYTES];
                         if n <= 255 {
                             bytes[kind * 32 + n as usize / 8] = 128 >> (n % 8);
+                            let line = spell_line(&mut self.random, &Call::Configure(bytes.clone()));
                             let answer = self.call(&Call::Configure(bytes))?;
                             equal("a bit at a limit", answer, if n > limit { 19 } else { 0 })?;
+                            let said = if n > limit { "refused ENODEV" } else { "ok" };
+                            self.says(&String::from_utf8(line).unwrap(), said)?;
                         }
                     }
                 }
@@ -1871,8 +2213,16 @@ impl Run {
             equal("remaining", self.view_remaining()?, 131_072)?;
             let used = self.call(&Call::Sweep(budget))?;
             equal("moves used", used, budget.min(131_072).into())?;
+            // the console's budget is the largest: two moves a queue, less those made
+            self.says("sweep", &format!("ok {}", 131_072 - used))?;
         }
         Ok(self.steps - begin)
+    }
+
+    /// A line of the console whose answer is known.
+    fn says(&mut self, line: &str, answer: &str) -> Result<(), String> {
+        self.call(&Call::Line(line.into(), ANSWER_BYTES))?;
+        equal(&format!("line \"{}\"", line.escape_debug()), &self.said[..], answer)
     }
 
     /// The settings that the requirements work out, with the outcomes that they give. They hold the second implementation
@@ -2098,8 +2448,393 @@ impl Run {
         for value in (-600..=600).chain([65_538, 65_634, 1 << 24, c_int::MIN, c_int::MIN + 2, c_int::MAX]) {
             self.view_names(value)?;
         }
+        self.console_settings()?;
         Ok(self.steps - begin)
     }
+
+    /// Lines of the console, and their answers by the requirements.
+    fn console_settings(&mut self) -> Result<(), String> {
+        let id = "0".repeat(32);
+        let types = "0a".repeat(256);
+        self.call(&Call::Fresh(255, 255))?;
+        self.says(&format!("create {id}"), "ok")?;
+        self.says(&format!("assign {id} adapter 5"), "ok")?;
+        self.says(&format!("assign {id} domain 4"), "refused EADDRNOTAVAIL")?;
+        for (line, answer) in [
+            ("apmask -5", "ok"),
+            ("apmask -5\n", "refused EINVAL"),
+            ("apmask  -5", "refused EINVAL"),
+            (" apmask -5", "refused EINVAL"),
+            ("apmask -5 ", "refused EINVAL"),
+            ("", "refused EINVAL"),
+            ("\n", "refused EINVAL"),
+            ("sweep", "ok 0"),
+            ("sweep\n", "refused EINVAL"),
+            ("sweep 1", "refused EINVAL"),
+            ("sweep\nsweep", "refused EINVAL"),
+            ("Sweep", "refused EINVAL"),
+            ("move 5 4", "ok idle"),
+            ("move 5 4\n", "refused EINVAL"),
+            ("move 5 256", "refused EINVAL"),
+            ("config 0x04 0x08 0x0 TYPES", "ok"),
+            ("config 0x04 0x08 0x0 TYPES\n", "refused EINVAL"),
+            ("config +5 0x08 0x0 TYPES", "refused EINVAL"),
+            ("config 0x04 0x08 0x0 TYPES0", "refused EINVAL"),
+            ("move 5 4", "ok passthrough"),
+            ("apmask +5", "ok"),
+            ("move 0x5 04", "ok released"),
+            ("move 5 4", "ok host"),
+            ("apmask -5", "ok"),
+            ("sweep", "ok 2"),
+            ("assign ID domain 4", "ok"),
+            ("apmask +5", "refused EADDRINUSE"),
+            ("unassign ID domain 256", "refused ENODEV"),
+            ("create ID", "refused EEXIST"),
+            ("open ID", "ok"),
+            ("open ID", "refused EBUSY"),
+            ("close ID", "ok"),
+            ("close ID", "refused EINVAL"),
+            ("remove ID", "ok"),
+            ("remove ID", "refused ENOENT"),
+        ] {
+            self.says(&line.replace("ID", &id).replace("TYPES", &types), answer)?;
+        }
+        for n in 1..=9 {
+            self.says(&format!("create {n:032}"), if n <= 8 { "ok" } else { "refused ENOSPC" })?;
+        }
+        // 1,022 to 1,026 bytes and more
+        for digits in 1..=5 {
+            let line = format!("aqmask {}+{:0digits$}", "-1,".repeat(337), 7);
+            let long = format!("aqmask {}+{:0digits$}", "-1,".repeat(338), 7);
+            self.says(&line, "ok")?;
+            self.says(&long, if long.len() <= 1_024 { "ok" } else { "refused EINVAL" })?;
+        }
+        // every size of the buffer for the answer: below 22 nothing is done
+        for size in 0..=64 {
+            self.call(&Call::Fresh(255, 255))?;
+            for line in [format!("create {id}"), "sweep".into(), "create".into()] {
+                let answer = self.call(&Call::Line(line.into_bytes(), size))?;
+                equal("setting: a buffer for an answer", answer, if size < 22 { 28 } else { 0 })?;
+            }
+            let answer = self.call(&Call::Create([0; 16]))?;
+            equal("setting: a line that is not carried out", answer, if size < 22 { 0 } else { 17 })?;
+        }
+        Ok(())
+    }
+}
+
+// ---------------------------------------------------------------------------------------------------------------------
+// The program that reads lines of the console.
+// ---------------------------------------------------------------------------------------------------------------------
+
+/// How long the program may take until it prints or ends.
+const PATIENCE: Duration = Duration::from_secs(60);
+/// Short inputs, and lines of the dialogue.
+const SHORT_INPUTS: usize = 60;
+const DIALOGUE: usize = 400;
+
+/// The program while it runs. Its output is read by a thread, so that no pipe fills.
+struct Program {
+    child: Child,
+    input: Option<ChildStdin>,
+    output: Receiver<Vec<u8>>,
+    /// What was printed and not looked at yet.
+    got: Vec<u8>,
+}
+
+impl Program {
+    fn start(path: &str) -> Result<Program, String> {
+        let started = Command::new(path).stdin(Stdio::piped()).stdout(Stdio::piped()).spawn();
+        let mut child = started.map_err(|e| format!("{path}: {e}"))?;
+        let (input, mut from) = (child.stdin.take(), child.stdout.take().unwrap());
+        let (send, output) = channel();
+        thread::spawn(move || {
+            let mut buffer = vec![0; 65_536];
+            while let Ok(n @ 1..) = from.read(&mut buffer) {
+                if send.send(buffer[..n].to_vec()).is_err() {
+                    break;
+                }
+            }
+        });
+        Ok(Program { child, input, output, got: Vec::new() })
+    }
+
+    /// Waits for more output; whether there was any before its end.
+    fn more(&mut self) -> Result<bool, String> {
+        match self.output.recv_timeout(PATIENCE) {
+            Ok(bytes) => {
+                self.got.extend(bytes);
+                Ok(true)
+            }
+            Err(RecvTimeoutError::Disconnected) => Ok(false),
+            Err(RecvTimeoutError::Timeout) => Err(format!("nothing printed for {} s", PATIENCE.as_secs())),
+        }
+    }
+
+    /// Writes a part of the input, at once.
+    fn write(&mut self, part: &[u8]) -> Result<(), String> {
+        write_part(self.input.as_mut().unwrap(), part)
+    }
+
+    /// Waits for an answer line, and takes it without its newline.
+    fn answer(&mut self) -> Result<String, String> {
+        loop {
+            if let Some(end) = self.got.iter().position(|&c| c == b'\n') {
+                let line: Vec<u8> = self.got.drain(..=end).collect();
+                return Ok(line[..end].escape_ascii().to_string());
+            }
+            if !self.more()? {
+                return Err(format!("the output ended after \"{}\"", self.got.escape_ascii()));
+            }
+        }
+    }
+
+    /// Reads the output to its end, and waits for the program to end well.
+    fn end(mut self) -> Result<Vec<u8>, String> {
+        while self.more()? {}
+        let begin = Instant::now();
+        while begin.elapsed() < PATIENCE {
+            match self.child.try_wait().map_err(|e| e.to_string())? {
+                Some(status) if status.success() => return Ok(std::mem::take(&mut self.got)),
+                Some(status) => return Err(format!("the program ended with {status}")),
+                None => thread::sleep(Duration::from_millis(1)),
+            }
+        }
+        Err("the output ended, and the program did not".into())
+    }
+}
+
+impl Drop for Program {
+    /// Nothing is left running where something differed.
+    fn drop(&mut self) {
+        let _ = self.child.kill();
+        let _ = self.child.wait();
+    }
+}
+
+fn write_part(input: &mut ChildStdin, part: &[u8]) -> Result<(), String> {
+    input.write_all(part).and_then(|()| input.flush()).map_err(|e| format!("the input was not taken: {e}"))
+}
+
+/// The start of a line, for a report.
+fn shown(line: &[u8]) -> String {
+    let dots = if line.len() > 200 { "..." } else { "" };
+    format!("\"{}{dots}\" of {} bytes", line[..line.len().min(200)].escape_ascii(), line.len())
+}
+
+/// The lengths of the parts in which an input is written: from a byte to many lines, and often up to a line's end, or just
+/// not to it. After some there is a pause, so that the program sees the part alone.
+fn parts(random: &mut Random, input: &[u8]) -> Vec<(usize, bool)> {
+    let (mut parts, mut at, mut most, mut change) = (Vec::new(), 0, 1, 0);
+    while at < input.len() {
+        if at >= change {
+            most = *random.pick(&[1, 2, 7, 60, 1_000, 1_024, 5_000, 100_000]);
+            change = at + 1 + random.below(if most <= 7 { 4_000 } else { 40_000 }) as usize;
+        }
+        let line = input[at..].iter().position(|&c| c == b'\n').unwrap_or(0);
+        let part = match random.below(8) {
+            0 if most > 1 => line + 1,
+            1 if most > 1 => line,
+            _ => 1 + random.below(most) as usize,
+        };
+        let part = part.clamp(1, input.len() - at);
+        parts.push((part, random.one_in(8)));
+        at += part;
+    }
+    parts
+}
+
+/// Random lines, and the second implementation, which follows them.
+struct Console {
+    random: Random,
+    record: Record,
+    pool: Pool,
+    /// Lines until another pool.
+    left: u64,
+    met: BTreeMap<String, u64>,
+}
+
+impl Console {
+    fn new(seed: u64) -> Console {
+        let mut random = Random::new(seed);
+        let pool = Pool::new(&mut random);
+        let mut record = Record::new();
+        record.fresh(255, 255);
+        Console { random, record, pool, left: 0, met: BTreeMap::new() }
+    }
+
+    /// A line. It may hold newlines, and is several then.
+    fn line(&mut self) -> Vec<u8> {
+        if self.left == 0 {
+            self.left = 100 + self.random.below(1_000);
+            self.pool = Pool::new(&mut self.random);
+            // room for other devices
+            let ids: Vec<Id> = self.record.devices.iter().filter(|v| v.present != 0).map(|v| v.id).collect();
+            let calls = ids.iter().flat_map(|&id| [Call::Close(id), Call::Remove(id)]);
+            let lines: Vec<Vec<u8>> = calls.map(|call| spell_line(&mut self.random, &call)).collect();
+            if !lines.is_empty() {
+                return lines.join(&b'\n');
+            }
+        }
+        self.left -= 1;
+        some_line(&mut self.random, &self.record, &self.pool)
+    }
+
+    /// The answers to more of the input, which begins with a line.
+    fn follow(&mut self, input: &[u8]) -> Vec<String> {
+        let answers = self.record.console_input(input);
+        for answer in &answers {
+            *self.met.entry(form(answer)).or_default() += 1;
+        }
+        answers
+    }
+
+    /// An input of at least as many lines, and the answers to it. It may end with a line that has no newline.
+    fn input(&mut self, lines: usize) -> (Vec<u8>, Vec<String>) {
+        let (mut input, mut answers) = (Vec::new(), Vec::new());
+        while answers.len() < lines {
+            let mut line = self.line();
+            line.push(b'\n');
+            answers.extend(self.follow(&line));
+            input.extend(line);
+        }
+        if self.random.one_in(2) {
+            let line = match self.random.below(4) {
+                0 => {
+                    let length = *self.random.pick(&[1_023, 1_024, 1_025, 5_000]);
+                    filled_line(&mut self.random, &self.pool, length)
+                }
+                1 => self.random.pick(&[&b" "[..], b"sweep", b"x", b"\r", b"\0"]).to_vec(),
+                _ => self.line(),
+            };
+            answers.extend(self.follow(&line));
+            input.extend(line);
+        }
+        (input, answers)
+    }
+
+    /// Gives the program an input in parts, and compares the whole output. Answers the number of parts.
+    fn feed(&mut self, path: &str, input: Vec<u8>, answers: &[String]) -> Result<usize, String> {
+        let parts = parts(&mut self.random, &input);
+        let count = parts.len();
+        let mut program = Program::start(path)?;
+        let (mut to, whole) = (program.input.take().unwrap(), input.clone());
+        let writer = thread::spawn(move || -> Result<(), String> {
+            let mut at = 0;
+            for (part, pause) in parts {
+                write_part(&mut to, &whole[at..at + part])?;
+                at += part;
+                if pause {
+                    thread::sleep(Duration::from_micros(20));
+                }
+            }
+            Ok(())
+        });
+        let got = program.end()?;
+        let mut lines = input.split(|&c| c == b'\n');
+        let mut said = got.split(|&c| c == b'\n');
+        for (n, answer) in answers.iter().enumerate() {
+            let (line, got) = (lines.next().unwrap_or(b""), said.next().unwrap_or(b""));
+            if got != answer.as_bytes() {
+                return Err(format!("line {}, {}: {}, expected {answer}", n + 1, shown(line), got.escape_ascii()));
+            }
+        }
+        if got != answers.iter().map(|answer| format!("{answer}\n")).collect::<String>().into_bytes() {
+            return Err(format!("more printed than {} answers", answers.len()));
+        }
+        writer.join().map_err(|_| "the writing thread failed")??;
+        Ok(count)
+    }
+
+    /// Sends lines one by one, each after the answer to the one before, while the input stays open. The last line has no
+    /// newline; its answer comes as the input is closed.
+    fn dialogue(&mut self, path: &str) -> Result<(), String> {
+        let mut program = Program::start(path)?;
+        for n in 1..=DIALOGUE {
+            let last = n == DIALOGUE;
+            let mut line = if last { b"sweep".to_vec() } else { self.line() };
+            // one line, which the pipe has room for, so that a program that hangs is seen below
+            line.truncate(40_000);
+            line.iter_mut().filter(|c| **c == b'\n').for_each(|c| *c = b'\r');
+            let answer = self.record.console(&line);
+            let what = |e: String| format!("line {n}, {}: {e}", shown(&line));
+            // in one part or several; before the newline there is no answer
+            let ended = [&line[..], b"\n"].concat();
+            let mut rest = if last { &line[..] } else { &ended[..] };
+            while !rest.is_empty() {
+                program.got.extend(program.output.try_iter().flatten());
+                if !program.got.is_empty() {
+                    return Err(what(format!("\"{}\" before the line's end", program.got.escape_ascii())));
+                }
+                let part = match self.random.below(4) {
+                    0 => 1 + self.random.below(rest.len() as u64) as usize,
+                    1 if rest.len() > 1 => rest.len() - 1,
+                    _ => rest.len(),
+                };
+                program.write(&rest[..part]).map_err(what)?;
+                rest = &rest[part..];
+                if self.random.one_in(8) {
+                    thread::sleep(Duration::from_millis(2));
+                }
+            }
+            if last {
+                drop(program.input.take());
+            }
+            let got = program.answer().map_err(what)?;
+            equal("answer", got, answer).map_err(what)?;
+        }
+        equal("after the last answer", program.end()?.escape_ascii().to_string(), String::new())
+    }
+}
+
+/// What was done, for the report.
+fn console_run(console: &mut Console, lines: usize, path: &str) -> Result<Vec<String>, String> {
+    let (input, answers) = console.input(lines);
+    let bytes = input.len();
+    let parts = console.feed(path, input, &answers).map_err(|e| format!("the long input: {e}"))?;
+    let mut done = vec![format!("{} lines, {bytes} bytes written in {parts} parts", answers.len())];
+    let (mut unfinished, mut empty) = (0, 0);
+    for n in 0..SHORT_INPUTS {
+        // a new program has a fresh record
+        console.record.fresh(255, 255);
+        let most = *console.random.pick(&[0, 1, 3, 40]);
+        let lines = console.random.below(most + 1) as usize;
+        let (input, answers) = console.input(lines);
+        unfinished += (!input.is_empty() && !input.ends_with(b"\n")) as u32;
+        empty += input.is_empty() as u32;
+        console.feed(path, input, &answers).map_err(|e| format!("short input {n}: {e}"))?;
+    }
+    done.push(format!("{SHORT_INPUTS} short inputs, {unfinished} without a newline at the end, {empty} empty"));
+    console.record.fresh(255, 255);
+    console.dialogue(path).map_err(|e| format!("the dialogue: {e}"))?;
+    done.push(format!("{DIALOGUE} lines sent one by one, each after the answer to the one before"));
+    Ok(done)
+}
+
+fn console_main() {
+    let (seed, lines) = (argument(2, 1), argument(3, 100_000));
+    let path = std::env::args().nth(4).unwrap_or_else(|| "target/bin/console".into());
+    let mut console = Console::new(seed);
+    let begin = Instant::now();
+    match console_run(&mut console, lines as usize, &path) {
+        Ok(done) => {
+            println!("{path}, seed {seed}, in {:.1} s:", begin.elapsed().as_secs_f64());
+            done.iter().for_each(|what| println!("  {what}"));
+        }
+        Err(what) => {
+            println!("DIFFERS, {path}, seed {seed}: {what}");
+            std::process::exit(1);
+        }
+    }
+    for (form, n) in &console.met {
+        println!("    {form:21} {n:9}");
+    }
+    let missing = forms_missing(&console.met);
+    if !missing.is_empty() {
+        println!("NOT MET: {}", missing.join(", "));
+        std::process::exit(1);
+    }
+    println!("nothing differs");
 }
 
 // ---------------------------------------------------------------------------------------------------------------------
@@ -2135,13 +2870,16 @@ impl Clock {
     }
 }
 
+fn usage() -> ! {
+    eprintln!("usage: outside [SEED [SECONDS [STEPS]]]");
+    eprintln!("       outside console [SEED [LINES [PATH]]]");
+    std::process::exit(2)
+}
+
 fn argument(n: usize, default: u64) -> u64 {
     match std::env::args().nth(n) {
         None => default,
-        Some(word) => word.parse().unwrap_or_else(|_| {
-            eprintln!("usage: outside [SEED [SECONDS [STEPS]]]");
-            std::process::exit(2)
-        }),
+        Some(word) => word.parse().unwrap_or_else(|_| usage()),
     }
 }
 
@@ -2150,6 +2888,9 @@ fn phases(run: &mut Run, clock: &mut Clock) -> Result<[u64; 4], String> {
 }
 
 fn main() {
+    if std::env::args().nth(1).as_deref() == Some("console") {
+        return console_main();
+    }
     let seed = argument(1, 1);
     let limit = Duration::from_secs(argument(2, 120));
     let most = argument(3, u64::MAX);
@@ -2177,6 +2918,10 @@ fn main() {
     let [idle, released, host, passthrough] = run.moves;
     println!("  moves: {idle} idle, {released} released, {host} bound to host, {passthrough} bound to passthrough");
     println!("  sweeps: {}, of {} moves", run.sweeps, run.swept);
+    println!("  lines of the console: {}", run.lines.values().sum::<u64>());
+    for (form, n) in &run.lines {
+        println!("    {form:21} {n:9}");
+    }
     println!("  compared after every step: the answer, {WORDS} words, {QUEUES} drivers, each buffer lent and");
     println!("    {EDGE} guard places on either side of each");
     println!("  full phase, after every step: the remainder, the limits, the host masks, the configuration,");
@@ -2192,7 +2937,7 @@ fn main() {
         }
         println!();
     }
-    // each of the eight, and by number the four that there are
+    // each of the eight, by number the four that there are, and each form of an answer line
     let mut missing: Vec<String> = Vec::new();
     for (v, name) in NAMES {
         if run.refused[v as usize] == 0 {
@@ -2201,6 +2946,10 @@ fn main() {
         if [2, 19, 98, 99].contains(&v) && run.by_number[v as usize] == 0 {
             missing.push(format!("{name} by number"));
         }
+    }
+    missing.extend(forms_missing(&run.lines));
+    if !run.lines.contains_key(NOT_CARRIED_OUT) {
+        missing.push("a line not carried out".into());
     }
     if !missing.is_empty() {
         println!("NOT MET: {}", missing.join(", "));

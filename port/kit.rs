@@ -10,21 +10,38 @@ pub mod bytes {
     }
 }
 
+pub mod libc {
+    use std::io::Read;
+
+    pub const STDIN_FILENO: i32 = 0;
+    pub const STDOUT_FILENO: i32 = 1;
+
+    /// Reads what is there, and waits only where nothing is; how many bytes there are, 0 at the end of the input, or -1.
+    pub fn read(fd: i32, buf: &mut [u8]) -> isize {
+        assert_eq!(fd, STDIN_FILENO);
+        std::io::stdin().read(buf).map_or(-1, |n| n as isize)
+    }
+}
+
 pub mod io {
+    use super::libc::{STDIN_FILENO, STDOUT_FILENO};
     use std::io::{Read, Write};
 
-    const STDIN: i32 = 0;
-    const STDOUT: i32 = 1;
+    /// What a read answered, as a number of the buffer's bytes.
+    pub fn count(got: isize, buf: &[u8]) -> usize {
+        usize::try_from(got).unwrap_or(0).min(buf.len())
+    }
 
-    /// Writes all bytes; whether that succeeded.
+    /// Writes all bytes; whether that succeeded. They are not kept back: somebody may be waiting for them.
     pub fn write_all(fd: i32, buf: &[u8]) -> bool {
-        assert_eq!(fd, STDOUT);
-        std::io::stdout().write_all(buf).is_ok()
+        assert_eq!(fd, STDOUT_FILENO);
+        let mut out = std::io::stdout();
+        out.write_all(buf).and_then(|()| out.flush()).is_ok()
     }
 
     /// Reads until the buffer is full or the input ends; how many bytes there are.
     pub fn read_full(fd: i32, buf: &mut [u8]) -> usize {
-        assert_eq!(fd, STDIN);
+        assert_eq!(fd, STDIN_FILENO);
         let mut done = 0;
         while let Ok(n @ 1..) = std::io::stdin().read(&mut buf[done..]) {
             done += n;

@@ -28,7 +28,7 @@ import sys
 
 GHOST_USE = re.compile(r"ghost use [^;]+;")
 # the last line of a function's head, where its body begins on a line of its own
-HEAD_END = re.compile(r'( *)((pub )?(extern "C" )?fn \w+\(.*)?\)( -> [^{}]+)?')
+HEAD_END = re.compile(r"""( *)((pub )?(extern "C" )?fn \w+(<'[a-z]>)?\(.*)?\)( -> [^{}]+)?""")
 CONTRACT = re.compile(r"( *)(requires|ensures)( \w+)? \{ (λ \w+\. )?⌜ .*")
 CONTRACT_END = " ⌝ }"
 NO_MANGLE = "#[no_mangle]"
@@ -87,7 +87,7 @@ PROGRAM_HEAD = """\
 #![allow(dead_code, unused_variables, unused_imports)]
 
 mod kit;
-use kit::{bytes, io};
+use kit::{bytes, io, libc};
 """
 
 
@@ -106,11 +106,12 @@ def string_open(line):
         part = (
             re.match(r"//.*", rest)
             or re.match(r"b?'(\\.|[^'\\])'", rest)
+            or re.match(r"[<&]'[a-z](?=[ >])", rest)
             or re.match(r'"(\\.|[^"\\])*"', rest)
             or re.match(r"(?!/\*|\*/)[^'\"]", rest)
         )
         if not part:
-            # a string that goes on; else a lifetime, or a comment or a string that runs over the end
+            # a string that goes on; else a label, or a comment or a string that runs over the end
             return True if STRING_MORE.fullmatch(rest[1:]) and rest[0] == '"' else None
         rest = rest[part.end() :]
     return False

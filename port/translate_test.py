@@ -28,6 +28,10 @@ GOOD = {
         'fn f() {\n    g(b\'"\', b"x", b"a\\\n        ghost use x;\\\nstruct S;\\"\\\n    b");\n}',
         'fn f() {\n    g(b\'"\', b"x", b"a\\\n        ghost use x;\\\nstruct S;\\"\\\n    b");\n}',
     ),
+    "a lifetime": (
+        "pub struct R<'a> {\n    x: &'a [u8],\n}\nfn f<'a>(x: &'a u8, y: u8) -> R<'a>\n    ensures { λ r. ⌜ r ≡ x ⌝ }\n{\n    g(y <b'a', '\"')\n}",
+        "#[derive(Clone, Copy)]\npub struct R<'a> {\n    x: &'a [u8],\n}\nfn f<'a>(x: &'a u8, y: u8) -> R<'a>\n{\n    g(y <b'a', '\"')\n}",
+    ),
     "a comment": ("// ghost, unsafe, ⌜ and #[x]", "// ghost, unsafe, ⌜ and #[x]"),
 }
 
@@ -59,7 +63,10 @@ BAD = {
     "a comment over lines": "/*\nghost use a /* ;\n*/\npub fn f() {}\n// */",
     "the end of a comment": "    ghost use z */ *x = 1;",
     "a comment within a line": "    f(/* x */ y);",
-    "a lifetime": "fn f<'a>(x: &'a u8) {",
+    "a label": "    'a: loop {",
+    "a lifetime of another form": "fn f<'a, 'b>(x: &'a u8, y: &'b u8) {",
+    "a lifetime that a quote follows": "    f(x <'a', \"",
+    "the lifetime of the program": "fn f(x: &'static [u8]) {",
     "a sign in code": "    let x = y ≡ z;",
     "an attribute": "#[inline]\nfn f() {\n}",
     "an attribute of the file": "#![no_std]",
