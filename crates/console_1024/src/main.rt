@@ -1,0 +1,4 @@
+// The console, on an input whose last line has 1024 bytes and no newline.
+fn main() {
+    session::play();
+}

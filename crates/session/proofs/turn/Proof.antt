@@ -1,0 +1,15 @@
+-- `turn` meets its contract.
+-- Assumes nothing.
+use mathlib.Core.Path.{sym}
+use lib.Seq.{length-take-le}
+use borrow.Author.Needs.{needs}
+use Rattle.session.proofs.turn.Statement.{statement}
+use Rattle.session.proofs.turn.Tie as tie
+
+pub turn-spec : {M : Type 1} → statement M
+turn-spec =
+    tie.close
+    (tie.spec (λ c. search needs) (λ c κs. search needs) (λ c. search needs) (λ c κs. search needs) (λ c. search needs) (λ c. search needs)
+    (λ c. search needs) (λ c κs. search needs) (λ c. search needs)
+    (λ c. sym (length-take-le (c .before .before .before .take .result .written) _ (c .before .before .before .take .ensures .1)))
+    (λ c κs. search needs) (λ c. search needs) (λ c. search needs))
