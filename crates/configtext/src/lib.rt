@@ -21,27 +21,26 @@ pub struct ConfigRead {
 pub fn read(text: &[u8]) -> ConfigRead
     ensures { λ r. ⌜ Reads (configText (cut 32 (now (text .entry)))) r ⌝ }
 {
-    let a = linereader::end_at(text, 0);
+    let adapters = linereader::word_at(text, 0);
+    let a = adapters.len();
     if text.len() <= a {
         return bad();
     }
-    let b = linereader::end_at(text, a + 1);
+    let domains = linereader::word_at(text, a + 1);
+    let b = a + 1 + domains.len();
     if text.len() <= b {
         return bad();
     }
-    let c = linereader::end_at(text, b + 1);
+    let controls = linereader::word_at(text, b + 1);
+    let c = b + 1 + controls.len();
     if text.len() <= c {
         return bad();
     }
-    if linereader::end_at(text, c + 1) < text.len() {
+    let types = linereader::word_at(text, c + 1);
+    if c + 1 + types.len() < text.len() {
         return bad();
     }
-    four(
-        linereader::word_at(text, 0),
-        linereader::word_at(text, a + 1),
-        linereader::word_at(text, b + 1),
-        linereader::word_at(text, c + 1),
-    )
+    four(adapters, domains, controls, types)
 }
 
 fn four(adapters: &[u8], domains: &[u8], controls: &[u8], types: &[u8]) -> ConfigRead

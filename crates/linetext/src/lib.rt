@@ -83,23 +83,24 @@ pub fn read(line: &[u8]) -> Parsed
     if LINE_BYTES < line.len() {
         return only(BAD);
     }
-    let a = linereader::end_at(line, 0);
     let w = linereader::word_at(line, 0);
+    let a = w.len();
     if line.len() <= a {
         return one(w);
     }
-    let b = linereader::end_at(line, a + 1);
     let x = linereader::word_at(line, a + 1);
+    let b = a + 1 + x.len();
     if line.len() <= b {
         return two(w, x, a + 1);
     }
-    let c = linereader::end_at(line, b + 1);
     let y = linereader::word_at(line, b + 1);
+    let c = b + 1 + y.len();
     if line.len() <= c {
         return three(w, x, y);
     }
-    if line.len() <= linereader::end_at(line, c + 1) {
-        return four(w, x, y, linereader::word_at(line, c + 1), c + 1);
+    let z = linereader::word_at(line, c + 1);
+    if line.len() <= c + 1 + z.len() {
+        return four(w, x, y, z, c + 1);
     }
     many(w, &line[a + 1..], a + 1)
 }

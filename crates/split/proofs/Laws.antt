@@ -8,7 +8,7 @@ use mathlib.Core.List.{List, [], _∷_, _++_}
 use mathlib.Core.Path.{_≡_, refl, sym, ap, _∙_}
 use lib.Dec.{eqb}
 use lib.ListN.{length, getD, take, drop, drop-of-length-le, length-drop}
-use lib.Seq.{drop-cons, drop-drop, take-all}
+use lib.Seq.{drop-cons, drop-drop, take-all, length-take-le}
 use borrow.Author.Tests.{eq-eqb, ne-eqb}
 use Rattle.split.specs.Cut.{onto, cut, firstOf, endFrom, pieceFrom}
 
@@ -147,3 +147,13 @@ first-take c (x ∷ xs) = go (eqb x c) refl (first-take c xs)
 pub piece-free : (c i : ℕ) (s : List ℕ) → length (pieceFrom c i s) ≤ firstOf c (pieceFrom c i s)
 unfolding pieceFrom
 piece-free c i s = omega (arith, first-take c (drop i s))
+
+-- where a piece ends, by its length
+pub piece-end : (c i : ℕ) (s : List ℕ) {p : List ℕ} → p ≡ pieceFrom c i s → i ≤ length s → (i + length p ≡ endFrom c i s) × (i + length p ≤ length s)
+unfolding pieceFrom endFrom
+piece-end c i s e h =
+    let n = length-take-le (firstOf c (drop i s)) (drop i s) (first-within c (drop i s)) in
+    (omega (arith, ap length e, n), omega (arith, ap length e, n, first-within c (drop i s), length-drop i s))
+
+pub first-end : (c : ℕ) (s : List ℕ) {p : List ℕ} → p ≡ pieceFrom c 0 s → length p ≡ endFrom c 0 s
+first-end c s e = omega (arith, piece-end c 0 s e (omega arith) .0)
