@@ -32,9 +32,10 @@ use Rattle.run.proofs.Laws.{stays, further}
 use Rattle.configure.specs.Configured.{configured}
 use Rattle.split.specs.Cut.{cut}
 use Rattle.answerline.specs.Answers.{commandLine, moveLine, sweepLine}
-use Rattle.linetext.specs.declared.Parsed.{Parsed}
-use Rattle.linetext.specs.Lines.{bad, forConfig}
-use Rattle.linetext.specs.Parsed.{asked}
+use Rattle.linewords.specs.declared.Parsed.{Parsed}
+use Rattle.wordtext.specs.Words.{bad}
+use Rattle.linewords.specs.Requests.{forConfig}
+use Rattle.linewords.specs.Parsed.{asked}
 use Rattle.consoleline.specs.Answering.{answerTo, answerFor, stepsIn, afterFor, leavesIn, Answered}
 
 -- what is asked for, said in another way

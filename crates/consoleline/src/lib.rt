@@ -1,11 +1,11 @@
 // Carries out a line of the console, by the functions that a caller would call.
 //
-// Rests on errno, mask, rules, model, layout, encoding, configure, bind, sweep, calls, request, run, served, configtext, answerline and linetext.
+// Rests on errno, mask, rules, model, layout, encoding, configure, bind, sweep, calls, request, run, served, configtext, answerline, linewords and linetext.
 use answerline::Said;
 use errno::Errno;
 use layout::Drivers;
 use layout::Words;
-use linetext::Parsed;
+use linewords::Parsed;
 use mask::Apid;
 use mask::Apqi;
 use rules::Answer;
@@ -19,8 +19,9 @@ ghost use Rattle.rules.specs.Commands.{answered};
 ghost use Rattle.encoding.specs.Encoding.{command, move, sweep, commandOf};
 ghost use Rattle.split.specs.Cut.{cut};
 ghost use Rattle.answerline.specs.Answers.{commandLine, saidLine};
-ghost use Rattle.linetext.specs.Lines.{forConfig, pieceRequest, lineRequest};
-ghost use Rattle.linetext.specs.Parsed.{asked};
+ghost use Rattle.linewords.specs.Requests.{forConfig};
+ghost use Rattle.linetext.specs.Lines.{pieceRequest, lineRequest};
+ghost use Rattle.linewords.specs.Parsed.{asked};
 ghost use Rattle.consoleline.specs.Answering.{Answers};
 
 // A line without its newline. One that holds a newline is bad text.
@@ -42,20 +43,20 @@ pub fn carry_out(words: &mut Words, drivers: &mut Drivers, line: &[u8], parsed: 
     ensures { λ r. ⌜ Answers (asked (now (line .entry)) parsed) words drivers r ⌝ }
 {
     let op = parsed.op;
-    if op <= linetext::AQMASK {
+    if op <= linewords::AQMASK {
         let kind = parsed.kind;
         let id = parsed.id;
         return command(words, drivers, op, kind, id, from(line, parsed.text));
     }
-    if op == linetext::CONFIG {
+    if op == linewords::CONFIG {
         return configure(words, drivers, from(line, parsed.text));
     }
-    if op == linetext::MOVE {
+    if op == linewords::MOVE {
         let adapter = parsed.adapter;
         let domain = parsed.domain;
         return make_move(words, drivers, adapter, domain);
     }
-    if op == linetext::SWEEP {
+    if op == linewords::SWEEP {
         return make_sweep(words, drivers);
     }
     Said::Refused(Errno::Einval)

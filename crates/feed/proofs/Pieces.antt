@@ -13,7 +13,9 @@ use Rattle.split.specs.Cut.{onto, cut, firstOf, endFrom, pieceFrom}
 use Rattle.split.proofs.Laws.{cut-next, cut-end, cut-some, piece-free}
 use Rattle.errno.specs.Outcome.{Outcome}
 use Rattle.encoding.specs.Encoding.{Request}
-use Rattle.linetext.specs.Lines.{bad, byWords, pieceRequest, holds, lineRequest}
+use Rattle.wordtext.specs.Words.{bad}
+use Rattle.linewords.specs.Requests.{byWords}
+use Rattle.linetext.specs.Lines.{pieceRequest, holds, lineRequest}
 use Rattle.feed.specs.Input.{finished, unfinished, lastLine, endedIn, begunIn, readAs, mostKept, kept}
 use Rattle.feed.specs.Feeding.{joinedAt}
 

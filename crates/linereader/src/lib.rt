@@ -2,7 +2,7 @@
 //
 // Rests on split.
 ghost use mathlib.Core.Path.{_≡_};
-ghost use Rattle.split.specs.Cut.{endFrom, pieceFrom};
+ghost use Rattle.split.specs.Cut.{pieceFrom};
 
 pub struct LineReader<'a> {
     pub line: &'a [u8],
@@ -22,22 +22,9 @@ pub fn word<'a>(r: LineReader<'a>) -> &'a [u8]
     split::piece(r.line, r.at, b' ')
 }
 
-// Where that word ends: at a space, or at the end of the line.
-pub fn end<'a>(r: LineReader<'a>) -> usize
-    ensures { λ n. ⌜ n ≡ endFrom 32 (r .entry .at) (now (r .entry .line)) ⌝ }
-{
-    split::end(r.line, r.at, b' ')
-}
-
-// The same for callers that have the line and a place.
+// The word that begins at a place of a line, for callers that have no reader.
 pub fn word_at(line: &[u8], at: usize) -> &[u8]
     ensures { λ w. ⌜ now w ≡ pieceFrom 32 at (now (line .entry)) ⌝ }
 {
     word(new(line, at))
-}
-
-pub fn end_at(line: &[u8], at: usize) -> usize
-    ensures { λ n. ⌜ n ≡ endFrom 32 at (now (line .entry)) ⌝ }
-{
-    end(new(line, at))
 }

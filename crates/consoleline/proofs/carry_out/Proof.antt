@@ -9,7 +9,7 @@ use Rattle.errno.specs.Outcome.{granted}
 use Rattle.layout.specs.Carried.{memory}
 use Rattle.encoding.specs.Encoding.{command, commandOf}
 use Rattle.split.specs.Cut.{cut}
-use Rattle.linetext.specs.Lines.{forConfig}
+use Rattle.linewords.specs.Requests.{forConfig}
 use Rattle.answerline.specs.Answers.{saidLine}
 use Rattle.consoleline.proofs.Laws.{asked-as, answered-bad, is-command, is-config, is-move, is-sweep, is-bad}
 use borrow.Author.Needs.{needs}

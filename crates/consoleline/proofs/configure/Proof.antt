@@ -6,7 +6,7 @@ use Rattle.answerline.specs.Answers.{saidLine}
 use Rattle.layout.specs.Carried.{memory}
 use Rattle.configtext.specs.ConfigText.{configRead}
 use Rattle.configtext.proofs.Laws.{told-good, told-bad}
-use Rattle.linetext.proofs.Laws.{when-good, when-bad}
+use Rattle.linewords.proofs.Laws.{when-good, when-bad}
 use Rattle.consoleline.proofs.Laws.{asked-as, answered-bad, answered-config}
 use borrow.Author.Needs.{needs}
 use Rattle.consoleline.proofs.configure.Statement.{statement}

@@ -2,7 +2,8 @@
 -- Assumes nothing.
 use native.Mathlib.Omega.{arith}
 use denote.Ref.{now}
-use Rattle.linetext.proofs.Laws.{asked-bad, newline-line, plain-line}
+use Rattle.linewords.proofs.Laws.{asked-bad}
+use Rattle.linetext.proofs.Laws.{newline-line, plain-line}
 use borrow.Author.Needs.{needs}
 use Rattle.linetext.proofs.read_line.Statement.{statement}
 use Rattle.linetext.proofs.read_line.Tie as tie
