@@ -62,7 +62,14 @@ pub fn carry_out(words: &mut Words, drivers: &mut Drivers, line: &[u8], parsed: 
     Said::Refused(Errno::Einval)
 }
 
-fn command(words: &mut Words, drivers: &mut Drivers, op: u8, kind: Kind, id: Id, text: &[u8]) -> Said
+fn command(
+    words: &mut Words,
+    drivers: &mut Drivers,
+    op: u8,
+    kind: Kind,
+    id: Id,
+    text: &[u8],
+) -> Said
     ensures { λ r. ⌜ Answers (granted (command (commandOf op kind id (now (text .entry))))) words drivers r ⌝ }
 {
     said(request::command(words, drivers, op, kind, id, text))

@@ -114,13 +114,7 @@ fn take(
 }
 
 // Answers a last line that no newline ended.
-fn end(
-    words: &mut Words,
-    drivers: &mut Drivers,
-    line: &[u8; KEPT],
-    held: usize,
-    out: &mut [u8],
-) {
+fn end(words: &mut Words, drivers: &mut Drivers, line: &[u8; KEPT], held: usize, out: &mut [u8]) {
     let n = feed::finish(words, drivers, line, held, out);
     io::write_all(libc::STDOUT_FILENO, &out[..n]);
 }

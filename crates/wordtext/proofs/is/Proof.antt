@@ -20,7 +20,7 @@ abbrev μ-loop : tie.MeasureT-loop
 pub is-spec : {M : Type 1} → statement M
 is-spec =
     tie.close
-    (tie.spec Inv-loop μ-loop (λ c. other-length (now (c .before .args .w)) (now (c .before .args .name)) (c .if1 .taken)) (λ c. (omega arith, omega arith, refl)) (λ c. search needs) (λ c. search needs) 
-    (λ c. sym (c .before .before .before .before .loop .inv .2 ∙ same-not (now (c .before .before .before .before .before .before .args .w)) (now (c .before .before .before .before .before .before .args .name)) (c .before .before .before .before .loop .i) (omega arith) (omega arith) (c .if2 .taken))) (λ c. search needs) (λ c. search needs) 
-    (λ c. (omega arith, omega arith, c .before .before .before .before .loop .inv .2 ∙ same-on (now (c .before .before .before .before .before .before .args .w)) (now (c .before .before .before .before .before .before .args .name)) (c .before .before .before .before .loop .i) (omega arith) (omega arith) (omega arith))) 
+    (tie.spec Inv-loop μ-loop (λ c. other-length (now (c .before .args .w)) (now (c .before .args .name)) (c .if1 .taken)) (λ c. (omega arith, omega arith, refl)) (λ c. search needs) (λ c. search needs)
+    (λ c. sym (c .before .before .before .before .loop .inv .2 ∙ same-not (now (c .before .before .before .before .before .before .args .w)) (now (c .before .before .before .before .before .before .args .name)) (c .before .before .before .before .loop .i) (omega arith) (omega arith) (c .if2 .taken))) (λ c. search needs) (λ c. search needs)
+    (λ c. (omega arith, omega arith, c .before .before .before .before .loop .inv .2 ∙ same-on (now (c .before .before .before .before .before .before .args .w)) (now (c .before .before .before .before .before .before .args .name)) (c .before .before .before .before .loop .i) (omega arith) (omega arith) (omega arith)))
     (λ c. sym (c .before .loop .inv .2 ∙ same-all (now (c .before .before .before .args .w)) (now (c .before .before .before .args .name)) (c .before .loop .i) (omega arith) (omega arith))))

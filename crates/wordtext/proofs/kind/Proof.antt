@@ -21,8 +21,11 @@ returns-2 c = (sym (first-no _ (sym (c .before .before .before .before .is .ensu
 
 returns-3 : tie.Need-returns-3
 unfolding kindRead kindText ascii
-returns-3 c = (ap (λ (b : Bool). cond b (granted Control) bad) (c .is3 .ensures)
-    ∙ sym (first-no _ (sym (c .before .before .before .before .before .before .is .ensures) ∙ c .before .before .before .before .before .if1 .left) ∙ first-no _ (sym (c .before .before .before .is2 .ensures) ∙ c .before .before .if2 .left)), λ e. refl)
+returns-3 c = (
+  ap (λ (b : Bool). cond b (granted Control) bad) (c .is3 .ensures)
+      ∙ sym (first-no _ (sym (c .before .before .before .before .before .before .is .ensures) ∙ c .before .before .before .before .before .if1 .left) ∙ first-no _ (sym (c .before .before .before .is2 .ensures) ∙ c .before .before .if2 .left)),
+  λ e. refl,
+)
 
 pub kind-spec : {M : Type 1} → statement M
 kind-spec =
