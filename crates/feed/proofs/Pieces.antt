@@ -8,14 +8,14 @@ use mathlib.Core.Path.{_≡_, refl, sym, ap, ap₂, _∙_}
 use lib.Dec.{eqb, leb}
 use lib.ListN.{length, take, drop, length-append, length-take}
 use lib.Seq.{paste, take-all, take-take, take-append-le, take-append-add, take-paste, length-take-le}
-use borrow.Author.Tests.{leb-true, leb-false, lt-leb, le-ltb}
-use Rattle.split.specs.Cut.{onto, cut, firstOf, endFrom, pieceFrom}
+use borrow.Author.Tests.{leb-true, leb-false, lt-leb}
+use Rattle.split.specs.Cut.{onto, cut, holds, endFrom, pieceFrom}
 use Rattle.split.proofs.Laws.{cut-next, cut-end, cut-some, piece-free}
 use Rattle.errno.specs.Outcome.{Outcome}
 use Rattle.encoding.specs.Encoding.{Request}
 use Rattle.wordtext.specs.Words.{bad}
 use Rattle.linewords.specs.Requests.{byWords}
-use Rattle.linetext.specs.Lines.{pieceRequest, holds, lineRequest}
+use Rattle.linetext.specs.Lines.{pieceRequest, lineRequest}
 use Rattle.feed.specs.Input.{finished, unfinished, lastLine, endedIn, begunIn, readAs, mostKept, kept}
 use Rattle.feed.specs.Feeding.{joinedAt}
 
@@ -110,7 +110,7 @@ module _ (i : ℕ) (s : List ℕ) {e : ℕ} (q : e ≡ endFrom 10 i s) (h : i �
 pub piece-line : (i : ℕ) (s : List ℕ) → pieceRequest (pieceFrom 10 i s) ≡ lineRequest (pieceFrom 10 i s)
 unfolding lineRequest
 piece-line i s =
-    sym (ap (λ (b : Bool). cond b bad (pieceRequest (pieceFrom 10 i s))) (le-ltb (firstOf 10 (pieceFrom 10 i s)) (length (pieceFrom 10 i s)) (piece-free 10 i s)))
+    sym (ap (λ (b : Bool). cond b bad (pieceRequest (pieceFrom 10 i s))) (piece-free 10 i s))
 
 -- ---- what is kept of a line
 

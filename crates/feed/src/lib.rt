@@ -95,8 +95,9 @@ fn take_part(
     requires { ⌜ (length (now line) ≡ mostKept) × (held ≤ mostKept) × (longest * length (now part) ≤ length (now out)) ⌝ }
     ensures { λ r. ⌜ Parts held (part .entry) line out words drivers r ⌝ }
 {
-    let e = split::end(part, 0, b'\n');
-    let joined = join(line, held, split::piece(part, 0, b'\n'));
+    let first = split::piece(part, 0, b'\n');
+    let e = first.len();
+    let joined = join(line, held, first);
     if part.len() <= e {
         return Fed {
             taken: part.len(),
@@ -141,11 +142,12 @@ fn lines(
     let mut at = from;
     let mut written = w;
     loop {
-        let e = split::end(part, at, b'\n');
+        let line = split::piece(part, at, b'\n');
+        let e = at + line.len();
         if part.len() <= e {
             return Reached { at, written };
         }
-        written = one(words, drivers, split::piece(part, at, b'\n'), out, written);
+        written = one(words, drivers, line, out, written);
         at = e + 1;
     }
 }

@@ -2,12 +2,12 @@
 -- Assumes nothing.
 use Prim.Native.Nat.{ℕ, _+_, _≤_, _<_}
 use native.Mathlib.Omega.{arith}
-use mathlib.Core.Bool.{Bool, cond}
+use mathlib.Core.Bool.{Bool, true, false, cond}
 use mathlib.Core.List.{List, [], _∷_}
 use mathlib.Core.Path.{_≡_, refl, sym, ap, _∙_}
 use lib.ListN.{length, drop}
-use borrow.Author.Tests.{le-leb, lt-leb, lt-ltb, le-ltb}
-use Rattle.split.specs.Cut.{cut, firstOf, endFrom, pieceFrom}
+use borrow.Author.Tests.{le-leb, lt-leb}
+use Rattle.split.specs.Cut.{cut, holds, endFrom, pieceFrom}
 use Rattle.split.proofs.Laws.{cut-next, cut-end, cut-some, cut-one, cut-two, cut-three}
 use Rattle.wordtext.specs.Words.{is, bad}
 use Rattle.linewords.specs.declared.Parsed.{Parsed}
@@ -81,15 +81,11 @@ pub short-line : (s : List ℕ) (r : Parsed) → length s ≤ 1024 → asked s r
 unfolding pieceRequest
 short-line s r l e = e ∙ sym (ap (λ (b : Bool). cond b (byWords (cut 32 s)) bad) (le-leb (length s) 1024 l))
 
-module _ (s : List ℕ) {e : ℕ} (q : e ≡ endFrom 10 0 s) where
-  found : firstOf 10 s ≡ e
-  unfolding endFrom
-  found = omega arith
-
-  pub newline-line : (r : Parsed) → e < length s → asked s r ≡ bad → asked s r ≡ lineRequest s
+module _ (s : List ℕ) {b : Bool} (q : b ≡ holds 10 s) where
+  pub newline-line : (r : Parsed) → b ≡ true → asked s r ≡ bad → asked s r ≡ lineRequest s
   unfolding lineRequest
-  newline-line r l h = h ∙ sym (ap (λ (b : Bool). cond b bad (pieceRequest s)) (lt-ltb (firstOf 10 s) (length s) (omega (arith, found))))
+  newline-line r e h = h ∙ sym (ap (λ (t : Bool). cond t bad (pieceRequest s)) (sym q ∙ e))
 
-  pub plain-line : (r : Parsed) → length s ≤ e → asked s r ≡ pieceRequest s → asked s r ≡ lineRequest s
+  pub plain-line : (r : Parsed) → b ≡ false → asked s r ≡ pieceRequest s → asked s r ≡ lineRequest s
   unfolding lineRequest
-  plain-line r l h = h ∙ sym (ap (λ (b : Bool). cond b bad (pieceRequest s)) (le-ltb (firstOf 10 s) (length s) (omega (arith, found))))
+  plain-line r e h = h ∙ sym (ap (λ (t : Bool). cond t bad (pieceRequest s)) (sym q ∙ e))

@@ -1,13 +1,13 @@
 -- A line of the console (RULES.md, "Console"): a request, or bad text. The state is not looked at.
 -- Assumes nothing.
 use Prim.Native.Nat.{ℕ}
-use mathlib.Core.Bool.{Bool, cond}
+use mathlib.Core.Bool.{cond}
 use mathlib.Core.List.{List}
-use lib.Dec.{ltb, leb}
+use lib.Dec.{leb}
 use lib.ListN.{length}
 use Rattle.errno.specs.Outcome.{Outcome}
 use Rattle.encoding.specs.Encoding.{Request}
-use Rattle.split.specs.Cut.{cut, firstOf}
+use Rattle.split.specs.Cut.{cut, holds}
 use Rattle.wordtext.specs.Words.{bad}
 use Rattle.linewords.specs.Requests.{byWords}
 
@@ -18,10 +18,6 @@ mostBytes = 1024
 -- the request of a piece of an input, whose words are parted by one space
 unfoldable pub pieceRequest : List ℕ → Outcome Request
 pieceRequest s = cond (leb (length s) mostBytes) (byWords (cut 32 s)) bad
-
--- whether a byte occurs
-abbrev pub holds : ℕ → List ℕ → Bool
-holds c s = ltb (firstOf c s) (length s)
 
 -- the request of a line: one that holds a newline is bad text
 unfoldable pub lineRequest : List ℕ → Outcome Request

@@ -13,7 +13,7 @@ pub const LINE_BYTES: usize = 1024;
 pub fn read_line(line: &[u8]) -> Parsed
     ensures { λ r. ⌜ asked (now (line .entry)) r ≡ lineRequest (now (line .entry)) ⌝ }
 {
-    if split::end(line, 0, b'\n') < line.len() {
+    if split::holds(line, b'\n') {
         return linewords::only(linewords::BAD);
     }
     read(line)

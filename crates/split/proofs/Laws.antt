@@ -3,14 +3,14 @@
 use Prim.Native.Nat.{ℕ, suc, _+_, _-_, _≤_, _<_, zero-le}
 use native.Mathlib.Nat.{add-zero}
 use native.Mathlib.Omega.{arith}
-use mathlib.Core.Bool.{Bool, true, false, cond}
+use mathlib.Core.Bool.{Bool, true, false, cond, _||_}
 use mathlib.Core.List.{List, [], _∷_, _++_}
 use mathlib.Core.Path.{_≡_, refl, sym, ap, _∙_}
 use lib.Dec.{eqb}
 use lib.ListN.{length, getD, take, drop, drop-of-length-le, length-drop}
 use lib.Seq.{drop-cons, drop-drop, take-all, length-take-le}
 use borrow.Author.Tests.{eq-eqb, ne-eqb}
-use Rattle.split.specs.Cut.{onto, cut, firstOf, endFrom, pieceFrom}
+use Rattle.split.specs.Cut.{onto, cut, holds, firstOf, endFrom, pieceFrom}
 
 -- ---- the end of a piece, byte by byte
 
@@ -134,19 +134,42 @@ module _ (c : ℕ) (s : List ℕ) {a : ℕ} (qa : a ≡ endFrom c 0 s) (la : a <
         cut-two ∙ ap (λ (ps : List (List ℕ)). pieceFrom c 0 s ∷ pieceFrom c (a + 1) s ∷ ps) (cut-next c (b + 1) s qd (omega arith) ld)
 
 -- a piece has no separator in it
-first-take : (c : ℕ) (s : List ℕ) → firstOf c (take (firstOf c s) s) ≡ length (take (firstOf c s) s)
-unfolding firstOf
-first-take c [] = refl
-first-take c (x ∷ xs) = go (eqb x c) refl (first-take c xs)
+first-free : (c : ℕ) (s : List ℕ) → holds c (take (firstOf c s) s) ≡ false
+unfolding firstOf holds
+first-free c [] = refl
+first-free c (x ∷ xs) = go (eqb x c) refl (first-free c xs)
   where
-    go : (b : Bool) → eqb x c ≡ b → firstOf c (take (firstOf c xs) xs) ≡ length (take (firstOf c xs) xs)
-        → firstOf c (take (cond b 0 (suc (firstOf c xs))) (x ∷ xs)) ≡ length (take (cond b 0 (suc (firstOf c xs))) (x ∷ xs))
+    go : (b : Bool) → eqb x c ≡ b → holds c (take (firstOf c xs) xs) ≡ false → holds c (take (cond b 0 (suc (firstOf c xs))) (x ∷ xs)) ≡ false
     go true e h = refl
-    go false e h = ap (λ (b : Bool). cond b 0 (suc (firstOf c (take (firstOf c xs) xs)))) e ∙ ap suc h
+    go false e h = ap (λ (b : Bool). b || holds c (take (firstOf c xs) xs)) e ∙ h
 
-pub piece-free : (c i : ℕ) (s : List ℕ) → length (pieceFrom c i s) ≤ firstOf c (pieceFrom c i s)
+pub piece-free : (c i : ℕ) (s : List ℕ) → holds c (pieceFrom c i s) ≡ false
 unfolding pieceFrom
-piece-free c i s = omega (arith, first-take c (drop i s))
+piece-free c i s = first-free c (drop i s)
+
+-- ---- whether a byte occurs
+
+-- of the bytes from i on, when byte i is looked at
+pub holds-turn : (c : ℕ) (s : List ℕ) (i : ℕ) (found : Bool) {b next : Bool} → i < length s → b ≡ eqb (getD s i 0) c → next ≡ (found || b)
+    → (found || holds c (drop i s)) ≡ (next || holds c (drop (i + 1) s))
+unfolding holds
+holds-turn c s i found {b} {next} h eb en =
+    let step : suc i ≡ i + 1 = omega arith in
+    ap (λ (l : List ℕ). found || holds c l) (drop-cons s i 0 h) ∙ ap (λ (k : ℕ). found || (eqb (getD s i 0) c || holds c (drop k s))) step
+    ∙ ap (λ (t : Bool). found || (t || holds c (drop (i + 1) s))) (sym eb) ∙ go found b (holds c (drop (i + 1) s))
+    ∙ ap (λ (t : Bool). t || holds c (drop (i + 1) s)) (sym en)
+  where
+    go : (x y z : Bool) → (x || (y || z)) ≡ ((x || y) || z)
+    go true y z = refl
+    go false y z = refl
+
+pub holds-end : (c : ℕ) (s : List ℕ) (i : ℕ) (found : Bool) → length s ≤ i → (found || holds c (drop i s)) ≡ found
+unfolding holds
+holds-end c s i found h = ap (λ (l : List ℕ). found || holds c l) (drop-of-length-le s {i = i} h) ∙ go found
+  where
+    go : (x : Bool) → (x || false) ≡ x
+    go true = refl
+    go false = refl
 
 -- where a piece ends, by its length
 pub piece-end : (c i : ℕ) (s : List ℕ) {p : List ℕ} → p ≡ pieceFrom c i s → i ≤ length s → (i + length p ≡ endFrom c i s) × (i + length p ≤ length s)

@@ -1,7 +1,7 @@
 -- Bytes cut at a separator.
 -- Assumes nothing.
 use Prim.Native.Nat.{ℕ, suc, _+_}
-use mathlib.Core.Bool.{cond}
+use mathlib.Core.Bool.{Bool, false, cond, _||_}
 use mathlib.Core.List.{List, [], _∷_, _++_}
 use lib.Dec.{eqb}
 use lib.ListN.{take, drop}
@@ -15,6 +15,11 @@ onto h (p ∷ ps) = (h ++ p) ∷ ps
 unfoldable pub cut : ℕ → List ℕ → List (List ℕ)
 cut c [] = [] ∷ []
 cut c (x ∷ xs) = cond (eqb x c) ([] ∷ cut c xs) (onto (x ∷ []) (cut c xs))
+
+-- whether c occurs
+unfoldable pub holds : ℕ → List ℕ → Bool
+holds c [] = false
+holds c (x ∷ xs) = eqb x c || holds c xs
 
 -- how many bytes stand before the first c, all where there is none
 unfoldable pub firstOf : ℕ → List ℕ → ℕ

@@ -2,7 +2,8 @@
 //
 // Rests on nothing.
 ghost use mathlib.Core.Path.{_≡_};
-ghost use Rattle.split.specs.Cut.{endFrom, pieceFrom};
+ghost use mathlib.Core.Bool.{_||_};
+ghost use Rattle.split.specs.Cut.{holds, endFrom, pieceFrom};
 
 // Where the piece that begins at an index ends: the first separator from there on, or the end of the bytes.
 pub fn end(s: &[u8], from: usize, c: u8) -> usize
@@ -26,4 +27,23 @@ pub fn piece(s: &[u8], from: usize, c: u8) -> &[u8]
         return &s[s.len()..];
     }
     &s[from..end(s, from, c)]
+}
+
+// Whether a byte occurs. All bytes are looked at, in a loop that has no way out, which compilers make wide.
+pub fn holds(s: &[u8], c: u8) -> bool
+    ensures { λ r. ⌜ r ≡ holds c (now (s .entry)) ⌝ }
+{
+    let mut found = false;
+    let mut i = 0usize;
+    while i < s.len() {
+        found = either(found, s[i] == c);
+        i += 1;
+    }
+    found
+}
+
+fn either(a: bool, b: bool) -> bool
+    ensures { λ r. ⌜ r ≡ (a || b) ⌝ }
+{
+    if a { true } else { b }
 }

@@ -1,6 +1,5 @@
 -- `read_line` meets its contract.
 -- Assumes nothing.
-use native.Mathlib.Omega.{arith}
 use denote.Ref.{now}
 use Rattle.linewords.proofs.Laws.{asked-bad}
 use Rattle.linetext.proofs.Laws.{newline-line, plain-line}
@@ -12,6 +11,6 @@ pub read-line-spec : {M : Type 1} → statement M
 read-line-spec =
     tie.close
     (tie.spec (λ c κs. search needs) (λ c κs. search needs)
-    (λ c. newline-line (now (c .before .before .before .before .args .line)) (c .before .before .end .ensures) _ (omega arith) (asked-bad _ (c .only .ensures)))
+    (λ c. newline-line (now (c .before .before .before .before .args .line)) (c .before .before .holds .ensures) _ (c .before .if1 .taken) (asked-bad _ (c .only .ensures)))
     (λ c κs. search needs)
-    (λ c. plain-line (now (c .before .before .before .before .args .line)) (c .before .before .end .ensures) _ (omega arith) (c .read .ensures)))
+    (λ c. plain-line (now (c .before .before .before .before .args .line)) (c .before .before .holds .ensures) _ (c .before .if1 .left) (c .read .ensures)))
