@@ -44,7 +44,8 @@ pub fn read(text: &[u8]) -> ConfigRead
 }
 
 fn four(adapters: &[u8], domains: &[u8], controls: &[u8], types: &[u8]) -> ConfigRead
-    ensures { λ r. ⌜ Reads (fourText (now (adapters .entry)) (now (domains .entry)) (now (controls .entry)) (now (types .entry))) r ⌝ }
+    ensures { λ r. ⌜ Reads (fourText (now (adapters .entry)) (now (domains .entry)) (now (controls .entry))
+        (now (types .entry))) r ⌝ }
 {
     let a = hex_mask(adapters);
     if !a.good {
