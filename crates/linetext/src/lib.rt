@@ -5,13 +5,15 @@ use linewords::Parsed;
 ghost use mathlib.Core.Path.{_≡_};
 ghost use Rattle.linewords.specs.Parsed.{asked};
 ghost use Rattle.linetext.specs.Lines.{pieceRequest, lineRequest};
+ghost use Rattle.linetext.specs.Texts.{OnlyGood};
 
 // The most bytes of a line.
 pub const LINE_BYTES: usize = 1024;
 
-// A line without its newline.
+// A line without its newline. What is read as a command has good text, which no record can refuse.
 pub fn read_line(line: &[u8]) -> Parsed
     ensures { λ r. ⌜ asked (now (line .entry)) r ≡ lineRequest (now (line .entry)) ⌝ }
+    ensures { λ r. ⌜ OnlyGood (lineRequest (now (line .entry))) ⌝ }
 {
     if split::holds(line, b'\n') {
         return linewords::only(linewords::BAD);

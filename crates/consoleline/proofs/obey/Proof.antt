@@ -9,4 +9,4 @@ use Rattle.consoleline.proofs.obey.Tie as tie
 pub obey-spec : {M : Type 1} → statement M
 obey-spec =
     tie.close
-    (tie.spec (λ c κs. search needs) (λ c κs. search needs) (λ c. asked-as (sym (c .before .read-line .ensures)) (c .carry-out .ensures)))
+    (tie.spec (λ c κs. search needs) (λ c κs. search needs) (λ c. asked-as (sym (c .before .read-line .ensures .0)) (c .carry-out .ensures)))
