@@ -1,6 +1,7 @@
 // Carries out a line of the console, by the functions that a caller would call.
 //
-// Rests on errno, mask, rules, model, layout, encoding, configure, bind, sweep, calls, request, run, served, configtext, answerline, linewords and linetext.
+// Rests on errno, mask, rules, model, layout, encoding, configure, bind, sweep, calls, request, run, served, split, configtext,
+// answerline, wordtext, linewords and linetext.
 use answerline::Said;
 use errno::Errno;
 use layout::Drivers;

@@ -28,7 +28,7 @@ use Rattle.consoleline.specs.Answering.{Answered}
 use Rattle.consoleline.proofs.Laws.{asked-as}
 use Rattle.feed.specs.declared.Fed.{Fed}
 use Rattle.feed.specs.declared.Reached.{Reached}
-use Rattle.feed.specs.Input.{finished, unfinished, lastLine, endedIn, begunIn, linesOf, readAs, mostKept, kept, Played, Taken}
+use Rattle.feed.specs.Input.{finished, unfinished, lastLine, endedIn, begunIn, linesOf, readAs, mostKept, kept, Played, Taken, output, lastState, Whole}
 use Rattle.feed.specs.Feeding.{Done, joinedAt, bufferAfter, pieces, takenOf, Part, Feeding, Ending, One, Going, Begun}
 use Rattle.feed.proofs.Pieces.{finished-cons, unfinished-cons, ended-append, begun-append, ended-next, begun-next, ended-none, begun-none, piece-line, kept-same, kept-lines, kept-last, kept-lastLine, joined-held}
 use Rattle.feed.proofs.Played.{done-none, done-first, played-more, played-none}
@@ -225,13 +225,14 @@ line-held buffer {out} {out′} {m} {m′} {n} {k} {r} b h ek l x =
 
 -- all lines of the input
 pub played-all : {l : Limits} {bytes before held out out′ : List ℕ} {m m′ : Memory} {r : ℕ} → Taken l bytes before m held → Done (readAs (lastLine held)) m m′ 0 out out′ r
-    → Played l (readAs (linesOf bytes)) (before ++ take r out′) m′
-unfolding linesOf
+    → Whole l bytes (before ++ take r out′) m′
+unfolding linesOf output lastState
 played-all {l} {bytes} {before} {held} {out} {out′} {m} {m′} {r} t d =
     let lines : readAs (endedIn bytes ++ lastLine (begunIn bytes)) ≡ readAs (endedIn bytes) ++ readAs (lastLine held) =
     map-append (endedIn bytes) (lastLine (begunIn bytes))
     ∙ ap (λ (q : List (Outcome Request)). readAs (endedIn bytes) ++ q) (sym (ap (λ (x : List ℕ). readAs (lastLine x)) (t .begun) ∙ kept-lastLine (begunIn bytes))) in
-    subst (λ (q : List (Outcome Request)). Played l q (before ++ take r out′) m′) (sym lines) (played-more l (readAs (endedIn bytes)) (readAs (lastLine held)) (t .played) d)
+    let p = subst (λ (q : List (Outcome Request)). Played l q (before ++ take r out′) m′) (sym lines) (played-more l (readAs (endedIn bytes)) (readAs (lastLine held)) (t .played) d) in
+    record { bytes = p .output; state = p .demand .state; played = p }
 
 -- ---- the beginning of an input
 

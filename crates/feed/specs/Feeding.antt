@@ -19,7 +19,7 @@ use Rattle.split.specs.Cut.{cut, onto}
 use Rattle.consoleline.specs.Answering.{Answered}
 use Rattle.feed.specs.declared.Fed.{Fed}
 use Rattle.feed.specs.declared.Reached.{Reached}
-use Rattle.feed.specs.Input.{finished, unfinished, lastLine, endedIn, begunIn, linesOf, readAs, outputOf, requestsOf, stepsOfLines, mostKept, kept, Played, Taken}
+use Rattle.feed.specs.Input.{finished, unfinished, lastLine, endedIn, begunIn, readAs, outputOf, requestsOf, stepsOfLines, mostKept, kept, Taken, Whole}
 
 -- Lines that were carried out on the memory m, which is left as n, with their answers at an index of a buffer: r is the index after them.
 pub record Done (os : List (Outcome Request)) (m n : Memory) (at : ℕ) (before after : List ℕ) (r : ℕ) : Type 0 where
@@ -69,9 +69,9 @@ pub record Feeding (n : ℕ) (part buffer buffer′ out out′ : List ℕ) (m m�
 pub record Ending (n : ℕ) (buffer out out′ : List ℕ) (m m′ : Memory) (r : ℕ) : Type 0 where
   pub short : length out < longest → (r ≡ 0) × (out′ ≡ out) × (m′ ≡ m)
   pub done : longest ≤ length out → Done (readAs (lastLine (take (min n mostKept) buffer))) m m′ 0 out out′ r
-  -- then all of the input's lines are carried out
+  -- then the whole input is carried out
   pub input : longest ≤ length out → (l : Limits) (bytes before : List ℕ) → Taken l bytes before m (take (min n mostKept) buffer)
-      → Played l (readAs (linesOf bytes)) (before ++ take r out′) m′
+      → Whole l bytes (before ++ take r out′) m′
 
 -- the same of lent memory
 abbrev pub Feeds : ℕ → Lent → Lending → Lending → Lending → Lending → Fed → Type 0

@@ -6,9 +6,9 @@ use mathlib.Core.Path.{_≡_}
 use lib.ListN.{take}
 use Rattle.errno.specs.Outcome.{Outcome, granted, refused}
 use Rattle.rules.specs.State.{Limits, State, fresh}
-use Rattle.layout.specs.Carried.{Memory}
+use Rattle.layout.specs.Carried.{Memory, read}
 use Rattle.setup.specs.Fresh.{freshMemory}
-use Rattle.model.specs.Steps.{Command, Step}
+use Rattle.model.specs.Steps.{Command, Step, afterAll}
 use Rattle.model.specs.Steps as Steps
 use Rattle.model.specs.Model.{start, replies}
 use Rattle.calls.specs.Calls.{Chain, Demanded}
@@ -111,6 +111,23 @@ pub record Played (l : Limits) (os : List (Outcome Request)) (out : List ℕ) (m
   pub demand : Demanded l m (stepsOfLines os (fresh l)) (Steps.answers (stepsOfLines os (fresh l)) (fresh l))
   -- the answer lines to the commands are those of the reference model, which is fed the commands alone
   pub model : toCommands os (answersTo os (fresh l)) ≡ map commandLine (replies (commandsIn os) (start (l .adapter) (l .domain)))
+
+-- ---- a whole input: its lines are carried out in order, a long one as bad text, the last one unless it is empty
+
+-- all its output
+unfoldable pub output : Limits → List ℕ → List ℕ
+output l input = outputOf (readAs (linesOf input)) (fresh l)
+
+-- the state after it
+unfoldable pub lastState : Limits → List ℕ → State
+lastState l input = afterAll (stepsOfLines (readAs (linesOf input)) (fresh l)) (fresh l)
+
+-- A whole input was carried out on a fresh record of limits l.
+pub record Whole (l : Limits) (input out : List ℕ) (m : Memory) : Type 0 where
+  pub bytes : out ≡ output l input
+  pub state : read m ≡ lastState l input
+  -- every byte of the record, and demand 3
+  pub played : Played l (readAs (linesOf input)) out m
 
 -- the most that is kept of a line that no newline has ended: enough to tell that it is too long
 abbrev pub mostKept : ℕ

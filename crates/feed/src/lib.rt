@@ -1,8 +1,8 @@
 // Takes the input of the console part by part, as it comes: the lines that a part ends are carried out and answered, and what it
 // begins is kept.
 //
-// Rests on mask, errno, rules, layout, setup, model, calls, encoding, request, run, served, split, copy, answerline, linetext and
-// consoleline.
+// Rests on errno, rules, layout, setup, model, calls, encoding, request, run, served, split, copy, answerline, wordtext, linewords,
+// linetext and consoleline.
 use answerline::LONGEST;
 use layout::Drivers;
 use layout::Words;

@@ -1,6 +1,6 @@
--- Two walks, each for a result of any type, as a number and a slice are:
---     parted           `end` and `word`: the reader is taken apart, and a function of split is called on its line, its place and a space
---     made             `end_at` and `word_at`: a reader is made by `new`, and one of the two is called on it
+-- Two walks, each for a result of any type:
+--     parted           `word`: the reader is taken apart, and a function of split is called on its line, its place and a space
+--     made             `word_at`: a reader is made by `new`, and `word` is called on it
 -- Assumes nothing.
 use mathlib.Core.Path.{_≡_, refl, subst}
 use Prim.Native.Nat.{ℕ, _<_, _^_}

@@ -1,6 +1,7 @@
 // Reads a line of the console: a command, a move, a sweep, or bad text.
 //
-// Rests on errno, encoding, split, linereader, wordtext and linewords.
+// Rests on mask, errno, digits, number, masktext, rules, model, encoding, split, linereader, hexbytes, configtext, wordtext and
+// linewords.
 use linewords::Parsed;
 ghost use mathlib.Core.Path.{_≡_};
 ghost use Rattle.linewords.specs.Parsed.{asked};

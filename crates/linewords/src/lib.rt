@@ -17,7 +17,7 @@ ghost use Rattle.linewords.specs.Requests.{forId, forMask, forNumber, fo
 ghost use Rattle.linewords.specs.Parsed.{parsed, noId, Asked, AskedIn, AskedMany, AskedBy};
 
 // What a line asks for: 0 to 8 is a command by its operation (crate encoding), 9 a move, 10 a sweep, any other bad text. Its kind, id,
-// numbers and the index of its last text are there where the request has such; else they are zeros.
+// numbers and the index of its last text count where the request has such (`asked`); what the others hold is not promised.
 pub struct Parsed {
     pub op: u8,
     pub kind: Kind,

@@ -1,7 +1,7 @@
 // The console's session: it reads what there is of standard input, has it taken, and writes the answers. No contract can say what is
 // read or written; what becomes of it is the contract of crate feed.
 //
-// Rests on layout, feed, answerline and the kit's io and libc.
+// Rests on errno, rules, layout, encoding, served, answerline, feed and the kit's io and libc.
 use answerline::LONGEST;
 use feed::Fed;
 use feed::KEPT;
@@ -13,6 +13,7 @@ ghost use mathlib.Core.Path.{_≡_};
 ghost use Prim.Native.Nat.{_≤_};
 ghost use lib.ListN.{length};
 ghost use Rattle.session.specs.Room.{most, room};
+ghost use Rattle.session.specs.Sessions.{Passes};
 
 // The most that is read at a time, and room for all answers to it.
 pub const PART: usize = 4096;
@@ -48,6 +49,7 @@ fn buffer() -> [u8; OUT]
 
 fn take_all(words: &mut Words, drivers: &mut Drivers, line: &mut [u8; KEPT], out: &mut [u8]) -> Went
     requires { ⌜ length (now out) ≡ room ⌝ }
+    ensures { λ r. ⌜ Passes 0 line words drivers (r .held) ⌝ }
 {
     let mut held = 0usize;
     // A loop has to end, and nothing says that an input does: no run uses this number up.
@@ -76,6 +78,7 @@ fn turn(
     out: &mut [u8],
 ) -> Went
     requires { ⌜ length (now out) ≡ room ⌝ }
+    ensures { λ r. ⌜ Passes held line words drivers (r .held) ⌝ }
 {
     let mut part = [0u8; PART];
     let got = libc::read(libc::STDIN_FILENO, &mut part);
@@ -109,6 +112,7 @@ fn take(
     requires { ⌜ (length (now part) ≤ most) × (length (now out) ≡ room) ⌝ }
     ensures { λ r. ⌜ r .taken ≡ length (now (part .entry)) ⌝ }
     ensures { λ r. ⌜ r .written ≤ length (now (out .exit)) ⌝ }
+    ensures { λ r. ⌜ Passes held line words drivers (r .held) ⌝ }
 {
     feed::feed(words, drivers, line, held, part, out)
 }
