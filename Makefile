@@ -1,4 +1,5 @@
-# Two commands for a stranger: `make run` shows what there is to see, `make test` is the gate. GNU make and bash.
+# Three commands for a stranger: `make run` shows what there is to see, `make console` starts the console, `make test` is the gate.
+# GNU make and bash.
 SHELL = /bin/bash
 .SHELLFLAGS = -o pipefail -c
 .PHONY: run console test expected clean

@@ -86,6 +86,7 @@ extern "C" {
 #define ZK_LINE_BYTES 8               /* a line of a matrix: aa.dddd and a newline */
 #define ZK_CONTROL_DOMAINS_BYTES 1280 /* the longest list of control domains: 256 lines of dddd and a newline */
 #define ZK_NAME_BYTES 14              /* a name as a C string */
+#define ZK_CONSOLE_LINE_BYTES 1024    /* the longest line of the console, without its newline */
 #define ZK_ANSWER_BYTES 22            /* the longest answer line: refused EADDRNOTAVAIL and a newline */
 #define ZK_MOST_MOVES 131072          /* what a sweep can need; a larger budget is taken as this */
 
@@ -470,9 +471,9 @@ static inline int zk_control_domains(const struct zk_record *record, const uint8
  *     ok idle                           of a move: idle, released, host or passthrough
  *     ok 8                              of a sweep: the moves made
  *     refused EINVAL                    the name of a refusal; this one also for bad text
- * A line of more than 1024 bytes, or that holds a newline, is bad text. *written is the length of the answer line; the
- * bytes after it stay as they were. Where size is under ZK_ANSWER_BYTES the call is refused ENOSPC, whatever the line, and
- * the line is not carried out.
+ * A line of more than ZK_CONSOLE_LINE_BYTES, or that holds a newline, is bad text. *written is the length of the answer
+ * line; no NUL ends it, and the bytes after it stay as they were. Where size is under ZK_ANSWER_BYTES the call is refused
+ * ENOSPC, whatever the line: it is not carried out, and out and *written stay as they were.
  */
 static inline int zk_line(struct zk_record *record, const char *line, size_t length, char *out, size_t size,
                           size_t *written)
