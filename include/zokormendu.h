@@ -48,8 +48,9 @@
  * no other call runs on it; any other call must be alone on its record. Calls on different records can run side by side.
  *
  * ANSWERS. A call that can be refused answers 0, or the errno value of its refusal, as an int. The checks are made in the
- * order in which the values stand at each function, and a text is read before anything else is checked. A refused call
- * leaves every byte that it was lent as it was. Calls that answer something else, or nothing, cannot be refused.
+ * order in which the values stand at each function, and a text is read before anything else is checked; zk_line alone
+ * looks at the room for its answer first. A refused call leaves every byte that it was lent as it was. Calls that answer
+ * something else, or nothing, cannot be refused.
  *
  * TEXT is bytes with a length and needs no terminator.
  *  - A number: decimal, hex after 0x, octal after a leading 0; 1 to 16 bytes, of at most 65535. Hex digits are of either
@@ -71,8 +72,8 @@ extern "C" {
 #endif
 
 /* 10000 times the first number, 100 times the second, the third. */
-#define ZK_VERSION 100
-#define ZK_VERSION_STRING "0.1.0"
+#define ZK_VERSION 200
+#define ZK_VERSION_STRING "0.2.0"
 
 /* Sizes. */
 #define ZK_WORDS 406                  /* uint64_t words of a record */
@@ -83,7 +84,7 @@ extern "C" {
 #define ZK_MASK_BYTES 32              /* a mask */
 #define ZK_MASKS_BYTES 96             /* three masks: adapters, usage domains, control domains */
 #define ZK_CONFIG_BYTES 352           /* three masks, then a hardware type for each of 256 adapters */
-#define ZK_LINE_BYTES 8               /* a line of a matrix: aa.dddd and a newline */
+#define ZK_LINE_BYTES 8               /* a line of a matrix, not of the console: aa.dddd and a newline */
 #define ZK_CONTROL_DOMAINS_BYTES 1280 /* the longest list of control domains: 256 lines of dddd and a newline */
 #define ZK_NAME_BYTES 14              /* a name as a C string */
 #define ZK_CONSOLE_LINE_BYTES 1024    /* the longest line of the console, without its newline */
@@ -96,7 +97,7 @@ extern "C" {
 #define ZK_EEXIST 17        /* create of a present id */
 #define ZK_ENODEV 19        /* a number or bit above its limit */
 #define ZK_EINVAL 22        /* bad text; a limit above 255; close of a device that is not open */
-#define ZK_ENOSPC 28        /* every slot is taken; a buffer under ZK_LINE_BYTES, of zk_line under ZK_ANSWER_BYTES */
+#define ZK_ENOSPC 28        /* every slot is taken; a listing buffer under ZK_LINE_BYTES, an answer's under ZK_ANSWER_BYTES */
 #define ZK_EADDRINUSE 98    /* another device has the queue, or a new mask would reserve one that a device has */
 #define ZK_EADDRNOTAVAIL 99 /* a queue is reserved */
 

@@ -2502,7 +2502,7 @@ impl Run {
         for n in 1..=9 {
             self.says(&format!("create {n:032}"), if n <= 8 { "ok" } else { "refused ENOSPC" })?;
         }
-        // 1,022 to 1,026 bytes and more
+        // lines of 1,020 to 1,027 bytes
         for digits in 1..=5 {
             let line = format!("aqmask {}+{:0digits$}", "-1,".repeat(337), 7);
             let long = format!("aqmask {}+{:0digits$}", "-1,".repeat(338), 7);
