@@ -7,6 +7,9 @@ import sys
 from service import NAMES, Service
 from textcases import EMPTY, mask
 
+# The rows of "control domains" have all sixteen ways of a domain. Domain 4 a + c is assigned by a and configured by c: 0 not at all,
+# 1 as a control domain, 2 as a usage domain, 3 as both. The guest controls those where neither is 0: 5 6 7 9 10 11 13 14 15. If
+# usage domains were no control domains, it would control 5 7 13 15.
 ROWS = r"""
 fresh 256 255|fresh 255 256|fresh 63 15
 configure 10 +63 +15 +15|configure 10 +64 +15 +15|configure 10 +63 +16 +15|configure 10 +63 +15 +16
@@ -52,6 +55,14 @@ sweep 131072|masks 1 guest|usable 1 6 4|masks 2 guest
 the listing of a guest
 lines 1 guest|list 1 guest 0 32|list 1 guest 0 20|list 1 guest 1452 20|list 1 guest 1452 16|list 1 guest 0 7|list 2 guest 0 7
 list 1 guest 65536 32|list 1 guest 65535 32|list 1 guest 18446744073709551615 32
+control domains
+fresh 255 255|apmask 0x0|aqmask 0x0|create 1|assign 1 adapter 5|configure 10 +5 0x3333 0x5555
+assign 1 control 4|assign 1 control 5|assign 1 control 6|assign 1 control 7
+assign 1 domain 8|assign 1 domain 9|assign 1 domain 10|assign 1 domain 11
+assign 1 control 12|assign 1 control 13|assign 1 control 14|assign 1 control 15
+assign 1 domain 12|assign 1 domain 13|assign 1 domain 14|assign 1 domain 15
+masks 1 assigned|masks 1 guest|open 1|sweep 131072|masks 1 guest|usable 1 5 13|usable 1 5 14
+unassign 1 control 14|unassign 1 domain 10|masks 1 guest|configure 10 +5 0x3333 0x0|masks 1 guest
 """
 ROWS = [row for line in ROWS.strip().split("\n") for row in line.split("|")]
 lines = []

@@ -168,7 +168,8 @@ class Service:
     def guest(self, v):
         domains = v.has["domain"] & self.domains
         adapters = {a for a in v.has["adapter"] & self.adapters if all(self.driver.get((a, d)) == "passthrough" for d in domains)}
-        return adapters, domains, v.has["control"] & self.controls
+        controls = (v.has["control"] | v.has["domain"]) & (self.controls | self.domains)
+        return adapters, domains, controls
 
     def usable(self, name, a, d):
         v = self.find(name)

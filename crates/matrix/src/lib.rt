@@ -1,6 +1,6 @@
 // The matrices of the device at a slot: what is assigned, and what its guest gets.
 //
-// Rests on mask, masks, rules, layout, record and drivers.
+// Rests on mask, masks, rules, layout, record, drivers and controls.
 use layout::Drivers;
 use layout::Words;
 use mask::Apid;
@@ -24,12 +24,11 @@ pub fn masks_at(words: &Words, drivers: &Drivers, slot: usize, matrix: Matrix) -
 {
     let adapters = record::numbers(words, slot, Kind::Adapter);
     let domains = record::numbers(words, slot, Kind::Domain);
-    let controls = record::numbers(words, slot, Kind::Control);
     match matrix {
         Matrix::Assigned => Masks {
             adapters: adapters,
             domains: domains,
-            controls: controls,
+            controls: record::numbers(words, slot, Kind::Control),
         },
         Matrix::Guest => {
             let there = masks::and(adapters, record::configured_adapters(words));
@@ -37,7 +36,7 @@ pub fn masks_at(words: &Words, drivers: &Drivers, slot: usize, matrix: Matrix) -
             Masks {
                 adapters: passed_adapters(drivers, there, kept),
                 domains: kept,
-                controls: masks::and(controls, record::configured_controls(words)),
+                controls: controls::guest_controls(words, slot),
             }
         }
     }

@@ -5,7 +5,7 @@ use native.Mathlib.Omega.{arith}
 use mathlib.Core.Bool.{Bool, cond, not, _&&_}
 use mathlib.Core.Path.{_≡_, refl, ap, ap₂, subst, _∙_}
 use lib.Dec.{leb}
-use Rattle.mask.specs.Bits.{both}
+use Rattle.mask.specs.Bits.{both, either}
 use Rattle.mask.proofs.Laws.{some-cong}
 use Rattle.rules.specs.declared.Driver.{Driver}
 use Rattle.rules.specs.declared.Driver.the-variants.{Unbound, Host, Passthrough}
@@ -68,7 +68,7 @@ module _ (s : State) (still : Settled s) where
 
   -- the drivers and the guest masks
   pub follows : Follows s (erase s)
-  unfolding guestDomains guestControls both Model.guestDomains Model.guestControls erase
+  unfolding guestDomains guestControls both either Model.guestDomains Model.guestControls erase
   follows =
       record {
         drivers = driver-same;

@@ -2,7 +2,7 @@
 -- no driver: a queue's driver is always its target. It is written over pairs of an APID and an APQI, apart from the rules.
 -- Assumes nothing.
 use Prim.Native.Nat.{ℕ, zero, suc}
-use mathlib.Core.Bool.{Bool, true, false, cond, not, _&&_}
+use mathlib.Core.Bool.{Bool, true, false, cond, not, _&&_, _||_}
 use mathlib.Core.List.{List, [], _∷_}
 use lib.ListN.{getD}
 use lib.Dec.{eqb, ltb, leb}
@@ -314,6 +314,6 @@ unfoldable pub guestAdapters : Model → Device → Bits
 guestAdapters m v a =
     v .adapters a && m .adapters a && not (someBelow 256 (λ d. guestDomains m v d && not (passes (driver m a d))))
 
--- a guest's control domains
+-- a guest's control domains: assigned as control or usage domain, and configured as control or usage domain
 unfoldable pub guestControls : Model → Device → Bits
-guestControls m v d = v .controls d && m .controls d
+guestControls m v d = (v .controls d || v .domains d) && (m .controls d || m .domains d)

@@ -4,3 +4,4 @@ pub mod Sums
 pub mod Moves
 pub mod Sweeps
 pub mod Refusals
+pub mod Controls

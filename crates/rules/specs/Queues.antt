@@ -5,7 +5,7 @@ use mathlib.Core.Bool.{Bool, true, false, cond, not, _&&_}
 use mathlib.Core.Path.{_≡_}
 use mathlib.Core.Logic.{_↔_}
 use lib.Dec.{eqb, leb}
-use Rattle.mask.specs.Bits.{Bits, someBelow, both}
+use Rattle.mask.specs.Bits.{Bits, someBelow, both, either}
 use Rattle.rules.specs.declared.Driver.{Driver}
 use Rattle.rules.specs.declared.Driver.the-variants.{Unbound, Host, Passthrough}
 use Rattle.rules.specs.declared.Matrix.{Matrix}
@@ -138,9 +138,19 @@ guestAdapters s v a =
     v .adapters a && s .config .adapters a
     && not (someBelow 256 (λ d. guestDomains s v d && not (passed (s .driver (a * 256 + d)))))
 
--- guest masks: the control domains
+-- guest masks: the control domains, assigned as control or usage domain and configured as control or usage domain
 unfoldable pub guestControls : State → Device → Bits
-guestControls s v = both (v .controls) (s .config .controls)
+guestControls s v = both (either (v .controls) (v .domains)) (either (s .config .controls) (s .config .domains))
+
+-- a guest's control domains beside its usage domains and beside what is assigned and configured, in every state
+pub record ControlRule (v : Device) : Type 0 where
+  -- every usage domain of the guest is one of its control domains
+  pub usage : (s : State) (d : ℕ) → guestDomains s v d ≡ true → guestControls s v d ≡ true
+  -- a domain that is assigned neither as control domain nor as usage domain is none, whatever is configured
+  pub unassigned : (d : ℕ) → v .controls d ≡ false → v .domains d ≡ false → (s : State) → guestControls s v d ≡ false
+  -- a domain that is configured neither as control domain nor as usage domain is none, whatever is assigned
+  pub unconfigured : (s : State) (d : ℕ) → s .config .controls d ≡ false → s .config .domains d ≡ false
+      → guestControls s v d ≡ false
 
 -- the adapters of a device's matrix
 unfoldable pub matrixAdapters : Matrix → State → Device → Bits

@@ -5,7 +5,7 @@ use borrow.Author.Needs.{needs}
 use Rattle.mask.specs.Bits.{both}
 use Rattle.rules.specs.declared.Matrix.{Matrix}
 use Rattle.rules.specs.Commands.{numbersOf}
-use Rattle.rules.specs.Queues.{guestDomains, guestControls, matrixAdapters, matrixDomains, matrixControls}
+use Rattle.rules.specs.Queues.{guestDomains, matrixAdapters, matrixDomains, matrixControls}
 use Rattle.layout.specs.Layout.{stateIn, deviceIn}
 use Rattle.matrix.proofs.Laws.{guest-adapters}
 use Rattle.matrix.proofs.masks_at.Statement.{statement}
@@ -14,35 +14,34 @@ use Rattle.matrix.proofs.masks_at.Tie as tie
 returns : tie.Need-returns
 unfolding matrixAdapters matrixDomains matrixControls numbersOf
 returns c =
-    let n = c .before .before in
-    let a = n .before .before .before .args in
+    let n = c .before .before .before in
+    let a = n .before .before .args in
     let s = stateIn (a .words .now) (a .drivers .now) in
     let v = deviceIn (a .words .now) (a .slot) in
-    let told = sym (c .enum-told .given .1) in
+    let told = sym (c .before .enum-told .given .1) in
     record {
-      adapters = n .before .before .numbers .ensures ∙ ap (λ (w : Matrix). matrixAdapters w s v) told;
-      domains = n .before .numbers2 .ensures ∙ ap (λ (w : Matrix). matrixDomains w s v) told;
-      controls = n .numbers3 .ensures ∙ ap (λ (w : Matrix). matrixControls w s v) told;
+      adapters = n .before .numbers .ensures ∙ ap (λ (w : Matrix). matrixAdapters w s v) told;
+      domains = n .numbers2 .ensures ∙ ap (λ (w : Matrix). matrixDomains w s v) told;
+      controls = c .numbers3 .ensures ∙ ap (λ (w : Matrix). matrixControls w s v) told;
     }
 
 returns-2 : tie.Need-returns-2
-unfolding matrixAdapters matrixDomains matrixControls numbersOf guestDomains guestControls stateIn
+unfolding matrixAdapters matrixDomains matrixControls numbersOf guestDomains stateIn
 returns-2 c =
-    let d = c .before .before .before in
+    let d = c .before .before in
     let b = d .before .before in
     let n = b .before .before .before .before in
-    let a = n .before .before .before .args in
+    let a = n .before .before .args in
     let s = stateIn (a .words .now) (a .drivers .now) in
     let v = deviceIn (a .words .now) (a .slot) in
     let told = sym (b .before .before .enum-told2 .given .1) in
-    let adapters = b .and .ensures ∙ ap₂ both (n .before .before .numbers .ensures) (b .before .configured-adapters .ensures) in
-    let domains = d .and2 .ensures ∙ ap₂ both (n .before .numbers2 .ensures) (d .before .configured-domains .ensures) in
-    let controls = c .and3 .ensures ∙ ap₂ both (n .numbers3 .ensures) (c .before .configured-controls .ensures) in
+    let adapters = b .and .ensures ∙ ap₂ both (n .before .numbers .ensures) (b .before .configured-adapters .ensures) in
+    let domains = d .and2 .ensures ∙ ap₂ both (n .numbers2 .ensures) (d .before .configured-domains .ensures) in
     record {
-      adapters = c .before .before .passed-adapters .ensures ∙ guest-adapters (a .words .now) (a .drivers .now) v adapters domains
+      adapters = c .before .passed-adapters .ensures ∙ guest-adapters (a .words .now) (a .drivers .now) v adapters domains
           ∙ ap (λ (w : Matrix). matrixAdapters w s v) told;
       domains = domains ∙ ap (λ (w : Matrix). matrixDomains w s v) told;
-      controls = controls ∙ ap (λ (w : Matrix). matrixControls w s v) told;
+      controls = c .guest-controls .ensures .mask (a .drivers .now) ∙ ap (λ (w : Matrix). matrixControls w s v) told;
     }
 
 pub masks-at-spec : {M : Type 1} → statement M
@@ -51,10 +50,9 @@ masks-at-spec =
     (tie.spec
     (λ c κs. search needs)
     (λ c κs. search needs)
-    (λ c κs. search needs)
-    (λ c. search needs)
     (λ c. search needs)
     (λ c κs. search needs)
+    (λ c. search needs)
     (λ c κs. search needs)
     (λ c κs. search needs)
     (λ c κs. search needs)
