@@ -1,5 +1,6 @@
 // The three guests of the kernel's document on vfio-ap, from a bare record to running; then the accident: a rehearsal guest asks for
 // the live queue, and is refused by name.
+use guest::Shown;
 use layout::Drivers;
 use layout::WORDS;
 use layout::Words;
@@ -42,6 +43,7 @@ fn main() {
         1m matrix of guest 1;\
         2m matrix of guest 2;\
         3m matrix of guest 3;\
+        1g masks of guest 1;\
         9c create rehearsal;\
         9a adapter 5;\
         9d domain 4;",
@@ -70,6 +72,7 @@ fn step(words: &mut Words, drivers: &mut Drivers, who: u8, what: u8, text: &[u8]
     };
     match what {
         b'm' => list(words, drivers, id),
+        b'g' => masks(guest::masks(words, drivers, id, Matrix::Guest)),
         b's' => moves(sweep::sweep(words, drivers, sweep::MOST_MOVES)),
         b'f' | b'p' | b'q' | b'k' => answer(host(words, drivers, what, text)),
         _ => answer(device(words, what, id, text)),
@@ -127,4 +130,11 @@ fn list(words: &Words, drivers: &Drivers, id: Id) {
     let r = listing::list(words, drivers, id, Matrix::Guest, 0, &mut buf);
     print::text(b"\n");
     print::first(&buf, r.written);
+}
+
+// No control domain is assigned to the guest that this is shown of: those that it has are its usage domains.
+fn masks(r: Shown) {
+    let m = r.masks;
+    print::text(b"\n");
+    print::masks(m);
 }
