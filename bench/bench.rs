@@ -94,6 +94,10 @@ impl Mask {
         Mask(std::array::from_fn(|k| self.0[k] & other.0[k]))
     }
 
+    fn or(&self, other: &Mask) -> Mask {
+        Mask(std::array::from_fn(|k| self.0[k] | other.0[k]))
+    }
+
     fn meets(&self, other: &Mask) -> bool {
         (0..4).any(|k| self.0[k] & other.0[k] != 0)
     }
@@ -314,7 +318,9 @@ impl Service {
                 adapters.set(a);
             }
         }
-        [adapters, domains, device.controls.and(&self.controls)]
+        let assigned = device.controls.or(&device.domains);
+        let configured = self.controls.or(&self.domains);
+        [adapters, domains, assigned.and(&configured)]
     }
 
     #[inline(never)]

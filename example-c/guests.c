@@ -170,6 +170,20 @@ static void control_domains(const struct guest *g)
         printf("control domains of %s: %.*s", g->name, (int)written, text);
 }
 
+/* The third of the guest's masks, which has the usage domains too. */
+static void guest_control_domains(const struct guest *g)
+{
+    uint8_t masks[ZK_MASKS_BYTES];
+    if (zk_guest_matrix_masks(&record, g->id, masks) != 0)
+        return;
+    const uint8_t *controls = masks + 2 * ZK_MASK_BYTES;
+    printf("%s can control:", g->name);
+    for (unsigned n = 0; n < 256; n++)
+        if (controls[n / 8] & 0x80 >> n % 8)
+            printf(" %04x", n);
+    putchar('\n');
+}
+
 int main(void)
 {
     const struct zk_apqn live = {.apid = 5, .apqi = 4};
@@ -239,9 +253,15 @@ int main(void)
     printf("assign Rehearsal domain number 256: ");
     say(zk_assign_domain_number(&record, rehearsal.id, 256));
     list(&rehearsal);
+
+    /* Guest1 can control its usage domains as they are. Of the two that are assigned to it, 7 is not configured. */
+    guest_control_domains(&guest1);
     printf("assign Guest1 control domain number 7: ");
     say(zk_assign_control_domain_number(&record, guest1.id, 7));
     control_domains(&guest1);
+    printf("assign Guest1 control domain 0x47: ");
+    say(zk_assign_control_domain(&record, guest1.id, "0x47", 4));
+    guest_control_domains(&guest1);
     devices();
     return 0;
 }

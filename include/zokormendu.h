@@ -18,7 +18,9 @@
  *    is then reserved is in some device's matrix. Control domains may be shared.
  *  - Its guest_matrix has the domains that are assigned and configured, and of the adapters that are assigned and
  *    configured those whose queues with all of these domains are bound to passthrough. ONE QUEUE THAT IS NOT DROPS THE
- *    WHOLE ADAPTER. Control domains count where they are assigned as such and configured as such.
+ *    WHOLE ADAPTER. Its control domains are those that are assigned as control or usage domain and configured as control
+ *    or usage domain. So every usage domain of a guest is one of its control domains, and only what it shall control
+ *    beside them needs zk_assign_control_domain. Drivers do not matter to them.
  *  - A guest can use a queue while its device is open and its guest_matrix has the queue. Assigning, unassigning, masks
  *    and configurations are allowed while guests run.
  *
@@ -72,8 +74,8 @@ extern "C" {
 #endif
 
 /* 10000 times the first number, 100 times the second, the third. */
-#define ZK_VERSION 200
-#define ZK_VERSION_STRING "0.2.0"
+#define ZK_VERSION 300
+#define ZK_VERSION_STRING "0.3.0"
 
 /* Sizes. */
 #define ZK_WORDS 406                  /* uint64_t words of a record */
@@ -418,7 +420,11 @@ static inline int zk_matrix_masks(const struct zk_record *record, const uint8_t 
     return zk_raw_matrix_masks(record->words, record->drivers, id, masks);
 }
 
-/* The same of its guest_matrix: what its guest gets while the device is open. Adapters without a domain are no queues. */
+/*
+ * The same of its guest_matrix: what its guest gets while the device is open. Adapters without a domain are no queues.
+ * Here usage domains are among the control domains; zk_matrix_masks and zk_control_domains have as control domains only
+ * those that were assigned as such.
+ */
 static inline int zk_guest_matrix_masks(const struct zk_record *record, const uint8_t id[ZK_ID_BYTES],
                                         uint8_t masks[ZK_MASKS_BYTES])
 {

@@ -552,7 +552,9 @@ impl Record {
         let mut guest = [Set::NONE; 3];
         for n in 0..256 {
             guest[DOMAIN].0[n] = assigned[DOMAIN].has(n) && self.configured[DOMAIN].has(n);
-            guest[CONTROL].0[n] = assigned[CONTROL].has(n) && self.configured[CONTROL].has(n);
+            // a usage domain is a control domain too
+            let as_either = |sets: &[Set; 3]| sets[CONTROL].has(n) || sets[DOMAIN].has(n);
+            guest[CONTROL].0[n] = as_either(assigned) && as_either(&self.configured);
         }
         for n in 0..256 {
             guest[ADAPTER].0[n] = self.guest_adapter(p, n);
@@ -2444,6 +2446,32 @@ impl Run {
         }
         self.view_controls(&two)?;
         self.view_record()?;
+
+        // domain 4 a + c is assigned by a and configured by c: 0 not at all, 1 as control domain, 2 as usage domain, 3 as both;
+        // then all of it once more in a mask's second half, from domain 240 on
+        gives!(0, Call::Fresh(255, 255));
+        gives!(0, Call::Create(one));
+        let mut bytes = vec![0; CONFIG_BYTES];
+        for at in [32, 62] {
+            bytes[at..at + 2].copy_from_slice(&[0x33, 0x33]);
+            bytes[at + 32..at + 34].copy_from_slice(&[0x55, 0x55]);
+        }
+        gives!(0, Call::Configure(bytes));
+        for n in (0..16).chain(240..256) {
+            if n / 4 % 2 == 1 {
+                gives!(0, Call::AssignNumber(one, CONTROL, n));
+            }
+            if n / 8 % 2 == 1 {
+                gives!(0, Call::AssignNumber(one, DOMAIN, n));
+            }
+        }
+        let mut controls = vec![0; 32];
+        for at in [0, 30] {
+            controls[at..at + 2].copy_from_slice(&[0x07, 0x77]);
+        }
+        equal("setting: guest control domains", self.record.guest(0)[CONTROL].bytes().to_vec(), controls)?;
+        self.view_masks(&one, ASSIGNED)?;
+        self.view_masks(&one, GUEST)?;
 
         for value in (-600..=600).chain([65_538, 65_634, 1 << 24, c_int::MIN, c_int::MIN + 2, c_int::MAX]) {
             self.view_names(value)?;
