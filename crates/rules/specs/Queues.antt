@@ -142,15 +142,14 @@ guestAdapters s v a =
 unfoldable pub guestControls : State → Device → Bits
 guestControls s v = both (either (v .controls) (v .domains)) (either (s .config .controls) (s .config .domains))
 
--- a guest's control domains beside its usage domains and beside what is assigned and configured, in every state
-pub record ControlRule (v : Device) : Type 0 where
+-- what follows for the control mask m of a guest
+pub record ControlRule (s : State) (v : Device) (m : Bits) : Type 0 where
   -- every usage domain of the guest is one of its control domains
-  pub usage : (s : State) (d : ℕ) → guestDomains s v d ≡ true → guestControls s v d ≡ true
+  pub usage : (d : ℕ) → guestDomains s v d ≡ true → m d ≡ true
   -- a domain that is assigned neither as control domain nor as usage domain is none, whatever is configured
-  pub unassigned : (d : ℕ) → v .controls d ≡ false → v .domains d ≡ false → (s : State) → guestControls s v d ≡ false
+  pub unassigned : (d : ℕ) → v .controls d ≡ false → v .domains d ≡ false → m d ≡ false
   -- a domain that is configured neither as control domain nor as usage domain is none, whatever is assigned
-  pub unconfigured : (s : State) (d : ℕ) → s .config .controls d ≡ false → s .config .domains d ≡ false
-      → guestControls s v d ≡ false
+  pub unconfigured : (d : ℕ) → s .config .controls d ≡ false → s .config .domains d ≡ false → m d ≡ false
 
 -- the adapters of a device's matrix
 unfoldable pub matrixAdapters : Matrix → State → Device → Bits

@@ -1,0 +1,12 @@
+-- `configured` meets its contract.
+-- Assumes nothing.
+use borrow.Author.Needs.{needs}
+use Rattle.controls.proofs.Laws.{in-either}
+use Rattle.controls.proofs.configured.Statement.{statement}
+use Rattle.controls.proofs.configured.Tie as tie
+
+returns : tie.Need-returns
+returns c = search in-either
+
+pub configured-spec : {M : Type 1} → statement M
+configured-spec = tie.close (tie.spec (λ c κs. search needs) (λ c κs. search needs) (λ c κs. search needs) returns)
