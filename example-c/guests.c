@@ -167,7 +167,7 @@ static void control_domains(const struct guest *g)
     char text[ZK_CONTROL_DOMAINS_BYTES];
     size_t written;
     if (zk_control_domains(&record, g->id, text, &written) == 0)
-        printf("control domains of %s: %.*s", g->name, (int)written, text);
+        printf("assigned control domains of %s: %.*s", g->name, (int)written, text);
 }
 
 /* The third of the guest's masks, which has the usage domains too. */
@@ -254,7 +254,10 @@ int main(void)
     say(zk_assign_domain_number(&record, rehearsal.id, 256));
     list(&rehearsal);
 
-    /* Guest1 can control its usage domains as they are. Of the two that are assigned to it, 7 is not configured. */
+    /*
+     * Guest1 can control its usage domains without more. Of the two control domains that it is given, 7 is not configured and
+     * does not count; 0x47 is configured as a usage domain, which is enough.
+     */
     guest_control_domains(&guest1);
     printf("assign Guest1 control domain number 7: ");
     say(zk_assign_control_domain_number(&record, guest1.id, 7));

@@ -18,9 +18,9 @@
  *    is then reserved is in some device's matrix. Control domains may be shared.
  *  - Its guest_matrix has the domains that are assigned and configured, and of the adapters that are assigned and
  *    configured those whose queues with all of these domains are bound to passthrough. ONE QUEUE THAT IS NOT DROPS THE
- *    WHOLE ADAPTER. Its control domains are those that are assigned as control or usage domain and configured as control
- *    or usage domain. So every usage domain of a guest is one of its control domains, and only what it shall control
- *    beside them needs zk_assign_control_domain. Drivers do not matter to them.
+ *    WHOLE ADAPTER. The guest's control domains are those that are assigned as control or usage domain and configured as
+ *    control or usage domain. So each of its usage domains is one of its control domains, and only what it shall control
+ *    beside them needs zk_assign_control_domain. Drivers play no part in this.
  *  - A guest can use a queue while its device is open and its guest_matrix has the queue. Assigning, unassigning, masks
  *    and configurations are allowed while guests run.
  *

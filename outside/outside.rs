@@ -2448,7 +2448,7 @@ impl Run {
         self.view_record()?;
 
         // domain 4 a + c is assigned by a and configured by c: 0 not at all, 1 as control domain, 2 as usage domain, 3 as both;
-        // then all of it once more in a mask's second half, from domain 240 on
+        // then all of it once more at a mask's end, from domain 240 on
         gives!(0, Call::Fresh(255, 255));
         gives!(0, Call::Create(one));
         let mut bytes = vec![0; CONFIG_BYTES];

@@ -7,9 +7,9 @@ import sys
 from service import NAMES, Service
 from textcases import EMPTY, mask
 
-# The rows of "control domains" have all sixteen ways of a domain. Domain 4 a + c is assigned by a and configured by c: 0 not at all,
-# 1 as a control domain, 2 as a usage domain, 3 as both. The guest controls those where neither is 0: 5 6 7 9 10 11 13 14 15. If
-# usage domains were no control domains, it would control 5 7 13 15.
+# The rows of "control domains" have all sixteen ways in which a domain can be assigned and configured. Domain 4 a + c is assigned by
+# a and configured by c: 0 not at all, 1 as a control domain, 2 as a usage domain, 3 as both. The guest controls those where neither
+# is 0: 5 6 7 9 10 11 13 14 15. If usage domains were no control domains, it would control 5 7 13 15.
 ROWS = r"""
 fresh 256 255|fresh 255 256|fresh 63 15
 configure 10 +63 +15 +15|configure 10 +64 +15 +15|configure 10 +63 +16 +15|configure 10 +63 +15 +16
