@@ -1,4 +1,4 @@
-// The C interface to what there is to see of devices: which one is in a slot or has a queue, and its control domains.
+// The C interface to what there is to see of devices: which one is in a slot or has a queue, and its assigned control domains.
 // include/zokormendu.h has the declarations.
 //
 // Rests on mask, rules, fields, layout, controllist, seen and served.
@@ -41,7 +41,7 @@ pub extern "C" fn zk_raw_holder(
     seen::holder(words, Apid(apid), Apqi(apqi), id)
 }
 
-// The lines of a device's control domains, and the number of bytes.
+// The lines of a device's assigned control domains, and the number of bytes.
 #[no_mangle]
 pub extern "C" fn zk_raw_control_domains(
     words: &Words,

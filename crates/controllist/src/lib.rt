@@ -23,7 +23,7 @@ pub const LINE: usize = 5;
 // The bytes of all 256 lines.
 pub const CONTROLS_BYTES: usize = 256 * LINE;
 
-// Writes the lines of a device's control domains, and leaves the number of bytes.
+// Writes the lines of a device's assigned control domains, and leaves the number of bytes.
 pub fn control_domains(
     words: &Words,
     id: Id,

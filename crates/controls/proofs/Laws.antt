@@ -3,18 +3,15 @@
 use Prim.Native.Nat.{ℕ}
 use mathlib.Core.List.{List}
 use mathlib.Core.Path.{_≡_, sym, ap₂, subst, _∙_}
-use Rattle.mask.specs.Bits.{Bits, bits, both, either}
+use Rattle.mask.specs.Bits.{Bits, bits}
 use Rattle.mask.specs.declared.Mask.{Mask}
 use Rattle.rules.specs.Queues.{guestControls, ControlRule}
 use Rattle.rules.proofs.Controls.{control-rule}
 use Rattle.layout.specs.Layout.{stateIn, deviceIn}
 use Rattle.controls.specs.Controls.{GuestControls}
 
-pub in-either : {r a b x y : Bits} → r ≡ either a b → a ≡ x → b ≡ y → r ≡ either x y
-in-either p q s = p ∙ ap₂ either q s
-
-pub in-both : {r a b x y : Bits} → r ≡ both a b → a ≡ x → b ≡ y → r ≡ both x y
-in-both p q s = p ∙ ap₂ both q s
+pub made : (f : Bits → Bits → Bits) {r a b x y : Bits} → r ≡ f a b → a ≡ x → b ≡ y → r ≡ f x y
+made f p q s = p ∙ ap₂ f q s
 
 pub its-controls : (ws : List ℕ) (slot : ℕ) (m : Mask) → ((qs : List ℕ) → bits m ≡ guestControls (stateIn ws qs) (deviceIn ws slot))
     → GuestControls ws slot m

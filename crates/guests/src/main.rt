@@ -1,5 +1,5 @@
 // The three guests of the kernel's document on vfio-ap, from a bare record to running; then the accident: a rehearsal guest asks for
-// the live queue, and is refused by name.
+// the live queue, and is refused by name. No control domain is assigned to guest 1: those of its masks are its usage domains.
 use guest::Shown;
 use layout::Drivers;
 use layout::WORDS;
@@ -132,7 +132,6 @@ fn list(words: &Words, drivers: &Drivers, id: Id) {
     print::first(&buf, r.written);
 }
 
-// No control domain is assigned to the guest that this is shown of: those that it has are its usage domains.
 fn masks(r: Shown) {
     let m = r.masks;
     print::text(b"\n");

@@ -146,9 +146,9 @@ guestControls s v = both (either (v .controls) (v .domains)) (either (s .config 
 pub record ControlRule (s : State) (v : Device) (m : Bits) : Type 0 where
   -- every usage domain of the guest is one of its control domains
   pub usage : (d : ℕ) → guestDomains s v d ≡ true → m d ≡ true
-  -- a domain that is assigned neither as control domain nor as usage domain is none, whatever is configured
+  -- a domain that is assigned neither as control domain nor as usage domain is not one of them, whatever is configured
   pub unassigned : (d : ℕ) → v .controls d ≡ false → v .domains d ≡ false → m d ≡ false
-  -- a domain that is configured neither as control domain nor as usage domain is none, whatever is assigned
+  -- a domain that is configured neither as control domain nor as usage domain is not one of them, whatever is assigned
   pub unconfigured : (d : ℕ) → s .config .controls d ≡ false → s .config .domains d ≡ false → m d ≡ false
 
 -- the adapters of a device's matrix
