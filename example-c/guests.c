@@ -255,8 +255,8 @@ int main(void)
     list(&rehearsal);
 
     /*
-     * Guest1 can control its usage domains without more. Of the two control domains that it is given, 7 is not configured and
-     * does not count; 0x47 is configured as a usage domain, which is enough.
+     * Guest1 can control its usage domains without any further assignment. Of the two control domains that it is given, 7 is
+     * not configured and does not count; 0x47 is configured as a usage domain, which is enough.
      */
     guest_control_domains(&guest1);
     printf("assign Guest1 control domain number 7: ");

@@ -19,8 +19,8 @@
  *  - Its guest_matrix has the domains that are assigned and configured, and of the adapters that are assigned and
  *    configured those whose queues with all of these domains are bound to passthrough. ONE QUEUE THAT IS NOT DROPS THE
  *    WHOLE ADAPTER. The guest's control domains are those that are assigned as control or usage domain and configured as
- *    control or usage domain. So each of its usage domains is one of its control domains, and only what it shall control
- *    beside them needs zk_assign_control_domain. Drivers play no part in this.
+ *    control or usage domain. So each of its usage domains is one of its control domains, and zk_assign_control_domain is
+ *    needed only for a domain that is not assigned as usage domain. Drivers play no part in this.
  *  - A guest can use a queue while its device is open and its guest_matrix has the queue. Assigning, unassigning, masks
  *    and configurations are allowed while guests run.
  *
@@ -87,7 +87,7 @@ extern "C" {
 #define ZK_MASKS_BYTES 96             /* three masks: adapters, usage domains, control domains */
 #define ZK_CONFIG_BYTES 352           /* three masks, then a hardware type for each of 256 adapters */
 #define ZK_LINE_BYTES 8               /* a line of a matrix, not of the console: aa.dddd and a newline */
-#define ZK_CONTROL_DOMAINS_BYTES 1280 /* the longest list of control domains: 256 lines of dddd and a newline */
+#define ZK_CONTROL_DOMAINS_BYTES 1280 /* the longest list of assigned control domains: 256 lines of dddd and a newline */
 #define ZK_NAME_BYTES 14              /* a name as a C string */
 #define ZK_CONSOLE_LINE_BYTES 1024    /* the longest line of the console, without its newline */
 #define ZK_ANSWER_BYTES 22            /* the longest answer line: refused EADDRNOTAVAIL and a newline */
@@ -360,7 +360,10 @@ static inline int zk_assign_control_domain(struct zk_record *record, const uint8
     return zk_raw_assign_control_domain(record->words, record->drivers, id, (const uint8_t *)text, length);
 }
 
-/* Unassign a number, assigned or not; 0, EINVAL, ENOENT or ENODEV. */
+/*
+ * Unassign a number, assigned or not; 0, EINVAL, ENOENT or ENODEV. A guest keeps a control domain that is still assigned as
+ * usage domain.
+ */
 static inline int zk_unassign_adapter(struct zk_record *record, const uint8_t id[ZK_ID_BYTES], const char *text,
                                       size_t length)
 {
