@@ -1,6 +1,6 @@
 // Whether a number can be assigned to a device: its range, and the queues that it adds. Nothing is changed.
 //
-// Rests on errno, mask, rules, product, layout, record and lookup.
+// Rests on errno, mask, rules, product, products, layout, record and lookup.
 use errno::Errno;
 use layout::Words;
 use mask::Mask;
@@ -52,10 +52,7 @@ pub fn admitted(words: &Words, slot: usize, wanted: Product) -> Answer
 fn reserved(words: &Words, wanted: Product) -> bool
     ensures { λ r. ⌜ r ≡ someBelow queues (both (queuesOf wanted) (reserved (host (words .entry)))) ⌝ }
 {
-    wanted.meets(Product {
-        adapters: record::apmask(words),
-        domains: record::aqmask(words),
-    })
+    wanted.meets(products::reserved(words))
 }
 
 // The queues that a new number pairs with the device's numbers of the other kind, as a product.
@@ -73,9 +70,6 @@ pub fn paired(words: &Words, kind: Kind, slot: usize, number: u8) -> Product
             adapters: record::numbers(words, slot, Kind::Adapter),
             domains: one,
         },
-        Kind::Control => Product {
-            adapters: none,
-            domains: none,
-        },
+        Kind::Control => Product::empty(),
     }
 }

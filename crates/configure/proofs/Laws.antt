@@ -9,7 +9,6 @@ use mir.Val.{Val}
 use lib.ListN.{length}
 use Rattle.errno.specs.Outcome.{granted, refused}
 use Rattle.errno.specs.declared.Errno.the-variants.{Enodev}
-use Rattle.mask.specs.declared.Mask.{Mask}
 use Rattle.mask.specs.Bits.{bits, someBelow, both, bitsAbove}
 use Rattle.mask.proofs.Laws.{mask-words}
 use Rattle.rules.proofs.Configuration.{the-row}
@@ -21,6 +20,8 @@ use Rattle.rules.specs.Commands.{beyondLimits, stored, withConfig, configure}
 use Rattle.layout.specs.Carried.{memory, Carried}
 use Rattle.layout.specs.Layout.{wordCount, limitsIn, configIn, stateIn, putConfig, unbind, takenAway}
 use Rattle.layout.proofs.Laws.{carried-refused, carried-granted, read-config}
+use Rattle.product.specs.declared.Product.{Product}
+use Rattle.product.specs.Meet.{queuesOf}
 use Rattle.unbind.specs.Gone.{gone}
 use Rattle.configure.specs.Configured.{configured as configuredBy}
 
@@ -36,11 +37,11 @@ module _ (g : Configuration) (ws : List ℕ) where
       || someBelow 256 (both (bits (g .controls)) (bitsAbove l)))
       p q
 
-  -- the queues that are configured no more, by the masks before
-  pub gone-away : (m n : Mask) → bits m ≡ configIn ws .adapters → bits n ≡ configIn ws .domains
-      → gone (record { adapters = m; domains = n }) (record { adapters = g .adapters; domains = g .domains }) ≡ takenAway ws g
+  -- the queues that are configured no more, by those that were
+  pub gone-away : (was : Product) → queuesOf was ≡ configured (configIn ws)
+      → gone was (record { adapters = g .adapters; domains = g .domains }) ≡ takenAway ws g
   unfolding takenAway configured stored
-  gone-away m n p q = λ i k. inProduct (p i) (q i) k && not (inProduct (bits (g .adapters)) (bits (g .domains)) k)
+  gone-away was e = λ i k. e i k && not (inProduct (bits (g .adapters)) (bits (g .domains)) k)
 
   module _ (qs : List ℕ) where
     by-test : (t : Bool) → t ≡ beyondLimits (limitsIn ws) g

@@ -1,6 +1,6 @@
 // The partition's configuration: setting it, and unbinding the queues that it takes away.
 //
-// Rests on errno, mask, limits, rules, product, layout, record, store and unbind.
+// Rests on errno, mask, limits, rules, product, products, layout, record, store and unbind.
 use errno::Errno;
 use layout::Drivers;
 use layout::Words;
@@ -21,10 +21,7 @@ pub fn configure(words: &mut Words, drivers: &mut Drivers, configuration: Config
     }
     layout::hold_words(words);
     layout::hold_drivers(drivers);
-    let was = Product {
-        adapters: record::configured_adapters(words),
-        domains: record::configured_domains(words),
-    };
+    let was = products::configured(words);
     let adapters = configuration.adapters;
     let domains = configuration.domains;
     unbind::unbind(

@@ -59,11 +59,6 @@ pub fn usable(words: &Words, drivers: &Drivers, id: Id, adapter: Apid, domain: A
         return false;
     }
     let m = matrix::masks_at(words, drivers, slot, Matrix::Guest);
-    let adapters = m.adapters;
-    let domains = m.domains;
-    let product = Product {
-        adapters: adapters,
-        domains: domains,
-    };
+    let product = Product::of(m);
     product.has(adapter, domain)
 }

@@ -1,12 +1,10 @@
 // Which device has a queue.
 //
-// Rests on mask, rules, product, layout and record.
+// Rests on mask, rules, product, products and layout.
 use layout::SLOTS;
 use layout::Words;
 use mask::Apid;
 use mask::Apqi;
-use product::Product;
-use rules::Kind;
 ghost use mathlib.Core.Path.{_≡_};
 ghost use Rattle.rules.specs.State.{apqn};
 ghost use Rattle.rules.specs.Commands.{product};
@@ -31,12 +29,6 @@ pub fn holder(words: &Words, adapter: Apid, domain: Apqi) -> usize
 fn holds(words: &Words, slot: usize, adapter: Apid, domain: Apqi) -> bool
     ensures { λ r. ⌜ r ≡ product (devices (words .entry) slot) (apqn adapter domain) ⌝ }
 {
-    if !record::present(words, slot) {
-        return false;
-    }
-    let assigned = Product {
-        adapters: record::numbers(words, slot, Kind::Adapter),
-        domains: record::numbers(words, slot, Kind::Domain),
-    };
+    let assigned = products::assigned(words, slot);
     assigned.has(adapter, domain)
 }

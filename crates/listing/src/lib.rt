@@ -47,13 +47,7 @@ pub fn list(
         return refused(Errno::Enospc, place);
     }
     let m = matrix::masks_at(words, drivers, slot, matrix);
-    let adapters = m.adapters;
-    let domains = m.domains;
-    let product = Product {
-        adapters: adapters,
-        domains: domains,
-    };
-    let r = lines::write(product, place, buf);
+    let r = lines::write(Product::of(m), place, buf);
     Listed {
         answer: Answer::Done,
         written: r.written,

@@ -2,12 +2,11 @@
 -- Assumes nothing.
 use Prim.Native.Nat.{ℕ, _+_}
 use native.Mathlib.Numerals.{add-one}
-use mathlib.Core.Bool.{Bool, true, false, not, _&&_, _||_, and-false}
-use mathlib.Core.Path.{_≡_, sym, ap, ap₂, _∙_}
+use mathlib.Core.Bool.{Bool, true, false, not, _&&_, _||_}
+use mathlib.Core.Path.{_≡_, ap, ap₂, _∙_}
 use lib.Dec.{eqb}
 use Rattle.mask.specs.Bits.{Bits, someBelow, both}
-use Rattle.mask.proofs.Laws.{none-some}
-use Rattle.rules.specs.State.{Device, Devices, queues, inProduct}
+use Rattle.rules.specs.State.{Devices, queues}
 use Rattle.rules.specs.Commands.{product}
 
 -- a test that is known, before another
@@ -25,16 +24,3 @@ shared p vs m j = not (eqb j p) && someBelow queues (both m (product (vs j)))
 pub none-next : (n : ℕ) (m : Bits) → someBelow n m ≡ false → m n ≡ false → someBelow (n + 1) m ≡ false
 unfolding someBelow
 none-next n m e h = ap (λ (k : ℕ). someBelow k m) (add-one n) ∙ ap₂ (λ (a b : Bool). a || b) e h
-
--- an empty slot has no queue
-pub met-none : (m : Bits) (v : Device) → v .present ≡ false → someBelow queues (both m (product v)) ≡ false
-unfolding both product
-met-none m v e =
-    none-some queues (λ q. m q && (v .present && inProduct (v .adapters) (v .domains) q))
-    (λ q h. ap (λ (b : Bool). m q && (b && inProduct (v .adapters) (v .domains) q)) e ∙ and-false (m q))
-
--- a device's queues are the product of its masks
-pub met-product : (m : Bits) (v : Device) (us ds : Bits) → v .present ≡ true → us ≡ v .adapters → ds ≡ v .domains
-    → someBelow queues (both m (inProduct us ds)) ≡ someBelow queues (both m (product v))
-unfolding product
-met-product m v us ds e p q = λ i. someBelow queues (both m (λ k. sym e i && inProduct (p i) (q i) k))

@@ -1,11 +1,10 @@
 // Looking through the devices of a record: the slot of an id, a free slot, and whether queues are assigned.
 //
-// Rests on errno, mask, rules, product, layout and record.
+// Rests on errno, mask, rules, product, products, layout and record.
 use layout::SLOTS;
 use layout::Words;
 use product::Product;
 use rules::Id;
-use rules::Kind;
 ghost use mathlib.Core.Bool.{_&&_};
 ghost use mathlib.Core.Path.{_≡_};
 ghost use Rattle.mask.specs.Bits.{someBelow, both};
@@ -82,11 +81,5 @@ pub fn taken(words: &Words, slot: usize, wanted: Product) -> bool
 fn shares(words: &Words, slot: usize, wanted: Product) -> bool
     ensures { λ r. ⌜ r ≡ someBelow queues (both (queuesOf wanted) (product (devices (words .entry) slot))) ⌝ }
 {
-    if !occupied(words, slot) {
-        return false;
-    }
-    wanted.meets(Product {
-        adapters: record::numbers(words, slot, Kind::Adapter),
-        domains: record::numbers(words, slot, Kind::Domain),
-    })
+    wanted.meets(products::assigned(words, slot))
 }

@@ -1,7 +1,8 @@
-// What is done with whole masks: and, or, whether any bit is set, whether two meet, how many bits there are.
+// What is done with whole masks: and, or, minus, whether any bit is set, whether two meet, how many bits there are.
 //
 // Rests on mask.
 use mask::Mask;
+ghost use mathlib.Core.Bool.{not, _&&_};
 ghost use mathlib.Core.Path.{_≡_};
 ghost use Rattle.mask.specs.Bits.{bits, both, either, someBelow, countBelow};
 
@@ -22,6 +23,22 @@ pub fn or(one: Mask, other: Mask) -> Mask
     let y = other.words;
     Mask {
         words: [x[0] | y[0], x[1] | y[1], x[2] | y[2], x[3] | y[3]],
+    }
+}
+
+// The bits of one mask that the other has not.
+pub fn minus(one: Mask, other: Mask) -> Mask
+    ensures { λ r. ⌜ bits r ≡ (λ i. bits one i && not (bits other i)) ⌝ }
+{
+    let x = one.words;
+    let y = other.words;
+    Mask {
+        words: [
+            x[0] ^ (x[0] & y[0]),
+            x[1] ^ (x[1] & y[1]),
+            x[2] ^ (x[2] & y[2]),
+            x[3] ^ (x[3] & y[3]),
+        ],
     }
 }
 

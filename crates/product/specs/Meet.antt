@@ -1,11 +1,11 @@
--- The queues of a product, and what a test of whether two sets of queues meet says.
+-- The queues of a product, what it is made of, what it says that two sets of queues meet, and the queues of one adapter.
 -- The rules: RULES.md, "Commands".
 -- Assumes nothing.
-use Prim.Native.Nat.{ℕ, _<_}
+use Prim.Native.Nat.{ℕ, _+_, _*_, _<_}
 use mathlib.Core.Bool.{Bool, true}
 use mathlib.Core.Path.{_≡_}
 use mathlib.Core.Logic.{_↔_}
-use Rattle.mask.specs.Bits.{Bits, bits, both, someBelow}
+use Rattle.mask.specs.Bits.{Bits, bits}
 use Rattle.rules.specs.State.{inProduct, queues}
 use Rattle.product.specs.declared.Product.{Product}
 
@@ -13,7 +13,16 @@ use Rattle.product.specs.declared.Product.{Product}
 abbrev pub queuesOf : Product → Bits
 queuesOf p = inProduct (bits (p .adapters)) (bits (p .domains))
 
--- r tells whether some queue is in both a and b
+-- p has the adapters a and the domains d, and its queues are qs
+pub record ProductOf (a d qs : Bits) (p : Product) : Type 0 where
+  pub adapters : bits (p .adapters) ≡ a
+  pub domains : bits (p .domains) ≡ d
+  pub queues : queuesOf p ≡ qs
+
+-- r is yes exactly when some queue is in both a and b
 pub record Meet (a b : Bits) (r : Bool) : Type 0 where
-  pub test : r ≡ someBelow queues (both a b)
   pub exactly : (r ≡ true) ↔ ((q : ℕ) × (q < queues) × (a q ≡ true) × (b q ≡ true))
+
+-- m has a domain exactly when its queue with adapter a is among some queues
+abbrev pub Row : Bits → ℕ → Bits → Type 0
+Row some a m = (d : ℕ) → d < 256 → m d ≡ some (a * 256 + d)

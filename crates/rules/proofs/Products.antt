@@ -1,11 +1,10 @@
--- Products of adapters and domains: two share a queue exactly when the adapters meet and the domains meet.
+-- Queues in products of adapters and domains, and in those of devices.
 -- Assumes nothing.
 use Prim.Native.Nat.{ℕ, _+_, _*_, _/_, _%_, _<_}
-use native.Mathlib.Nat.{mod-lt, div-lt-iff-lt-mul}
 use native.Mathlib.Omega.{arith}
 use mathlib.Core.Bool.{Bool, true, false, not, _&&_, and-eq-true-iff}
 use mathlib.Core.Path.{_≡_, refl, sym, ap, ap₂, _∙_, fun-ext}
-use lib.Dec.{eqb, lit<}
+use lib.Dec.{eqb}
 use lib.Arith.{digits-div, digits-mod}
 use borrow.Author.Tests.{ne-eqb}
 use Rattle.mask.specs.Bits.{Bits, someBelow, both}
@@ -53,36 +52,6 @@ product-apid us vs q e = and-eq-true-iff (us (q / 256)) (vs (q % 256)) .0 e .0
 pub product-apqi : (us vs : Bits) (q : ℕ) → inProduct us vs q ≡ true → vs (q % 256) ≡ true
 unfolding inProduct
 product-apqi us vs q e = and-eq-true-iff (us (q / 256)) (vs (q % 256)) .0 e .1
-
-module _ (a d a′ d′ : Bits) where
-  forth : someBelow queues (both (inProduct a d) (inProduct a′ d′)) ≡ true → (someBelow 256 (both a a′) && someBelow 256 (both d d′)) ≡ true
-  forth e =
-      let f = some-elim queues (both (inProduct a d) (inProduct a′ d′)) e in
-      let q = f .0 in
-      let l = both-left (inProduct a d) (inProduct a′ d′) q (f .2) in
-      let r = both-right (inProduct a d) (inProduct a′ d′) q (f .2) in
-      and-eq-true-iff (someBelow 256 (both a a′)) (someBelow 256 (both d d′)) .1 (
-        some-intro 256 (both a a′) (q / 256) (div-lt-iff-lt-mul (lit< tt) .1 (f .1))
-            (in-both a a′ (q / 256) (product-apid a d q l) (product-apid a′ d′ q r)),
-        some-intro 256 (both d d′) (q % 256) (mod-lt q (lit< tt)) (in-both d d′ (q % 256) (product-apqi a d q l) (product-apqi a′ d′ q r)),
-      )
-
-  back : (someBelow 256 (both a a′) && someBelow 256 (both d d′)) ≡ true → someBelow queues (both (inProduct a d) (inProduct a′ d′)) ≡ true
-  back e =
-      let h = and-eq-true-iff (someBelow 256 (both a a′)) (someBelow 256 (both d d′)) .0 e in
-      let f = some-elim 256 (both a a′) (h .0) in
-      let g = some-elim 256 (both d d′) (h .1) in
-      let q = f .0 * 256 + g .0 in
-      some-intro queues (both (inProduct a d) (inProduct a′ d′)) q (queue-below (f .0) (g .0) (f .1) (g .1))
-      (in-both (inProduct a d) (inProduct a′ d′) q
-      (in-product a d (f .0) (g .0) (g .1)
-      ∙ and-eq-true-iff (a (f .0)) (d (g .0)) .1 (both-left a a′ (f .0) (f .2), both-left d d′ (g .0) (g .2)))
-      (in-product a′ d′ (f .0) (g .0) (g .1)
-      ∙ and-eq-true-iff (a′ (f .0)) (d′ (g .0)) .1 (both-right a a′ (f .0) (f .2), both-right d d′ (g .0) (g .2))))
-
-  -- the test of whether two products share a queue
-  pub products-meet : someBelow queues (both (inProduct a d) (inProduct a′ d′)) ≡ (someBelow 256 (both a a′) && someBelow 256 (both d d′))
-  products-meet = same-test forth back
 
 -- some of the first n for some of the first k, in either order
 pub some-swap : (n k : ℕ) (f : ℕ → ℕ → Bool) → someBelow n (λ q. someBelow k (λ j. f j q)) ≡ someBelow k (λ j. someBelow n (λ q. f j q))

@@ -18,7 +18,8 @@ use Rattle.rules.specs.Queues as Queues
 use Rattle.rules.specs.Queues.{reserved}
 use Rattle.rules.specs.Commands as Commands
 use Rattle.rules.specs.Commands.{errnoOf, stateAfter, onDevice, reading, numbersOf, withNumbers, withDevice, withHost, limitOf, single, paired, adding, assignAt, setHost, product, assignedElsewhere}
-use Rattle.rules.proofs.Products.{products-meet, taken-by, elsewhere-anywhere}
+use Rattle.rules.proofs.Products.{taken-by, elsewhere-anywhere}
+use Rattle.product.proofs.Laws.{meet, meet-test}
 use Rattle.model.specs.Steps.{Command, create, remove, openIt, closeIt, assign, unassign, setApmask, setAqmask, configure, Step, command, move, queueOf, rule, after, afterAll, answers}
 
 -- the adapters and the domains of the queues that a number pairs with
@@ -48,7 +49,7 @@ meetsElsewhere us ds p vs =
 
 host-quick : (us ds : Bits) (h : HostMasks) → someBelow queues (both (inProduct us ds) (reserved h)) ≡ meetsHost us ds h
 unfolding meetsHost reserved
-host-quick us ds h = products-meet us ds (h .apmask) (h .aqmask)
+host-quick us ds h = sym (meet-test (meet us ds (h .apmask) (h .aqmask)) refl)
 
 -- a device's queues
 device-quick : (us ds : Bits) (v : Device)
@@ -58,7 +59,7 @@ device-quick us ds v = go (v .present)
   where
     go : (b : Bool) → someBelow queues (λ q. inProduct us ds q && (b && inProduct (v .adapters) (v .domains) q))
         ≡ (b && (someBelow 256 (λ i. us i && v .adapters i) && someBelow 256 (λ i. ds i && v .domains i)))
-    go true = products-meet us ds (v .adapters) (v .domains)
+    go true = sym (meet-test (meet us ds (v .adapters) (v .domains)) refl)
     go false = none-some queues (λ q. inProduct us ds q && false) (λ q h. and-false (inProduct us ds q))
 
 elsewhere-quick : (us ds : Bits) (p : ℕ) (vs : Devices) → someBelow queues (both (inProduct us ds) (assignedElsewhere p vs)) ≡ meetsElsewhere us ds p vs

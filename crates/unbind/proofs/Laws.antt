@@ -8,17 +8,18 @@ use mathlib.Core.List.{List}
 use mathlib.Core.Path.{_≡_, refl, sym, ap, ap₂, _∙_}
 use lib.ListN.{set}
 use Rattle.mask.specs.declared.Mask.{Mask}
-use Rattle.mask.specs.Bits.{Bits, bits}
-use Rattle.rules.proofs.Products.{in-product, queue-apqi}
+use Rattle.mask.specs.Bits.{Bits, bits, someBelow}
+use Rattle.mask.proofs.Laws.{some-none}
+use Rattle.rules.proofs.Products.{queue-apqi}
 use Rattle.layout.specs.Layout.{unbindOne, unbind}
 use Rattle.product.specs.declared.Product.{Product}
-use Rattle.unbind.specs.Gone.{gone, domainsOf, dropped, unbindRow}
+use Rattle.product.specs.Meet.{queuesOf, Row}
+use Rattle.unbind.specs.Gone.{gone, withDomain, unbindRow}
 
--- a queue goes if its domain was in one mask, by one test, and is not in another, by another
-pub by-tests : (qs : List ℕ) (was is : Mask) (a d : ℕ) (w s : Bool) → d < 256 → w ≡ bits was d → s ≡ bits is d
-    → cond (w && not s) (set qs (a * 256 + d) 0) qs ≡ unbindOne qs (dropped was is) (a * 256 + d)
-by-tests qs was is a d w s h p r =
-    ap₂ (λ (x y : Bool). cond (x && not y) (set qs (a * 256 + d) 0) qs) (p ∙ ap (bits was) (sym (queue-apqi a d h))) (r ∙ ap (bits is) (sym (queue-apqi a d h)))
+-- a queue goes by a test of its domain
+pub by-test : (qs : List ℕ) (m : Mask) (a d : ℕ) (x : Bool) → d < 256 → x ≡ bits m d
+    → cond x (set qs (a * 256 + d) 0) qs ≡ unbindOne qs (withDomain m) (a * 256 + d)
+by-test qs m a d x h p = ap (λ (b : Bool). cond b (set qs (a * 256 + d) 0) qs) (p ∙ ap (bits m) (sym (queue-apqi a d h)))
 
 module _ (qs : List ℕ) (away : Bits) (a : ℕ) where
   -- one queue more of an adapter
@@ -38,11 +39,6 @@ module _ (qs : List ℕ) (away : Bits) (a : ℕ) where
   pub unbind-next : unbindRow (unbind qs away (a * 256)) away a 256 ≡ unbind qs away ((a + 1) * 256)
   unbind-next = let next : a * 256 + 256 ≡ (a + 1) * 256 = omega arith in row-after 256 ∙ ap (unbind qs away) next
 
--- the domains of an adapter, by a test of it
-pub paired-with : (p : Product) (a : ℕ) (b : Bool) → b ≡ bits (p .adapters) a → (λ (d : ℕ). b && bits (p .domains) d) ≡ domainsOf p a
-unfolding domainsOf
-paired-with p a b e = λ i d. e i && bits (p .domains) d
-
 -- the queues of an adapter, by another test of them
 row-as : (qs : List ℕ) (f g : Bits) (a n : ℕ) → ((d : ℕ) → d < n → f (a * 256 + d) ≡ g (a * 256 + d)) → unbindRow qs f a n ≡ unbindRow qs g a n
 unfolding unbindRow
@@ -55,22 +51,18 @@ unfolding unbindRow
 row-false qs a zero = refl
 row-false qs a (suc n) = row-false qs a n
 
-module _ (was is : Product) (a : ℕ) where
-  -- a queue of the adapter, by its domain
-  goes : (b : Bool) → bits (was .adapters) a ≡ b → (d : ℕ) → d < 256
-      → ((b && bits (was .domains) d) && not (domainsOf is a d)) ≡ gone was is (a * 256 + d)
-  unfolding domainsOf
-  goes b e d h =
-      ap (λ (x : Bool). (x && bits (was .domains) d) && not (domainsOf is a d)) (sym e)
-      ∙ ap₂ (λ (x y : Bool). x && not y) (sym (in-product (bits (was .adapters)) (bits (was .domains)) a d h))
-      (sym (in-product (bits (is .adapters)) (bits (is .domains)) a d h))
+-- the domains of an adapter whose queues go
+pub row-gone : (was is : Product) (a : ℕ) {m n k : Bits} → Row (queuesOf was) a m → Row (queuesOf is) a n → k ≡ (λ i. m i && not (n i))
+    → Row (gone was is) a k
+row-gone was is a before after e = λ d h. ap (λ (f : Bits). f d) e ∙ ap₂ (λ (x y : Bool). x && not y) (before d h) (after d h)
 
-  -- an adapter that was not configured has nothing to unbind
-  pub row-none : (qs : List ℕ) → bits (was .adapters) a ≡ false → qs ≡ unbindRow qs (gone was is) a 256
-  row-none qs e = row-false qs a 256 ∙ row-as qs (λ q. false) (gone was is) a 256 (goes false e)
+module _ (qs : List ℕ) (away : Bits) (a : ℕ) (m : Mask) (row : Row away a (bits m)) where
+  -- an adapter of which no queue goes
+  pub row-none : someBelow 256 (bits m) ≡ false → qs ≡ unbindRow qs away a 256
+  row-none e =
+      row-false qs a 256
+      ∙ row-as qs (λ q. false) away a 256 (λ d h. sym (some-none 256 (bits m) e d h) ∙ row d h)
 
-  -- of another, those go whose domain went
-  pub row-some : (qs : List ℕ) (m : Mask) → bits (was .adapters) a ≡ true → bits m ≡ domainsOf is a → unbindRow qs (dropped (was .domains) m) a 256 ≡ unbindRow qs (gone was is) a 256
-  row-some qs m e k =
-      row-as qs (dropped (was .domains) m) (gone was is) a 256
-      (λ d h. ap₂ (λ (x : ℕ) (f : Bits). bits (was .domains) x && not (f x)) (queue-apqi a d h) k ∙ goes true e d h)
+  -- another
+  pub row-some : unbindRow qs (withDomain m) a 256 ≡ unbindRow qs away a 256
+  row-some = row-as qs (withDomain m) away a 256 (λ d h. ap (bits m) (queue-apqi a d h) ∙ row d h)

@@ -15,13 +15,9 @@ use Rattle.product.specs.Meet.{queuesOf}
 abbrev pub gone : Product → Product → Bits
 gone was is q = queuesOf was q && not (queuesOf is q)
 
--- the domains that a product pairs with adapter a
-unfoldable pub domainsOf : Product → ℕ → Bits
-domainsOf p a d = bits (p .adapters) a && bits (p .domains) d
-
--- the queues whose domain was in one mask and is not in another
-abbrev pub dropped : Mask → Mask → Bits
-dropped was is q = bits was (apqi q) && not (bits is (apqi q))
+-- the queues whose domain is in a mask
+abbrev pub withDomain : Mask → Bits
+withDomain m q = bits m (apqi q)
 
 -- the driver bytes with those of the first n queues of adapter a that are away cleared
 unfoldable pub unbindRow : List ℕ → Bits → ℕ → ℕ → List ℕ

@@ -2,7 +2,6 @@
 -- Assumes nothing.
 use mathlib.Core.Path.{sym, ap, ap₂, _∙_}
 use borrow.Author.Needs.{needs}
-use Rattle.mask.specs.Bits.{noBits}
 use Rattle.rules.specs.State.{inProduct}
 use Rattle.rules.specs.declared.Kind.{Kind}
 use Rattle.rules.specs.Commands.{numbersOf, paired}
@@ -26,11 +25,10 @@ returns-2 c =
     ∙ ap (λ (k : Kind). paired k (a .number) (deviceIn (a .words .now) (a .slot))) (sym (c .before .enum-told2 .given .1))
 
 returns-3 : tie.Need-returns-3
-unfolding paired inProduct noBits
+unfolding paired
 returns-3 c =
-    let a = c .before .before .before .before .args in
-    let none = c .before .before .before .empty .ensures in
-    ap₂ inProduct none none ∙ ap (λ (k : Kind). paired k (a .number) (deviceIn (a .words .now) (a .slot))) (sym (c .enum-told3 .given .1))
+    let a = c .before .before .before .before .before .args in
+    c .empty2 .ensures .queues ∙ ap (λ (k : Kind). paired k (a .number) (deviceIn (a .words .now) (a .slot))) (sym (c .before .enum-told3 .given .1))
 
 pub paired-spec : {M : Type 1} → statement M
 paired-spec =
@@ -43,6 +41,7 @@ paired-spec =
     (λ c. search needs)
     (λ c κs. search needs)
     (λ c. search needs)
+    (λ c κs. search needs)
     returns
     returns-2
     returns-3)

@@ -16,15 +16,13 @@ returns c =
 
 returns-2 : tie.Need-returns-2
 returns-2 c =
-    let domains = c .before .before .before .before .before .before in
-    let adapters = domains .before .before in
-    let drivers = adapters .before .before in
+    let was = c .before .before .before .before .before .before in
+    let drivers = was .before .before in
     let words = drivers .before .before in
     let test = words .before .before in
     let start = test .before .before .before in
     let a = start .args in
-    let away = gone-away (a .configuration) (a .words .now) (adapters .configured-adapters .result) (domains .configured-domains .result)
-    (adapters .configured-adapters .ensures) (domains .configured-domains .ensures) in
+    let away = gone-away (a .configuration) (a .words .now) (was .configured .result) (was .configured .ensures .queues) in
     config-done (a .configuration) (a .words .now) (a .drivers .now) (sym (test .if1 .left) ∙ test .before .beyond .ensures) (c .put-configuration .ensures)
     (c .before .before .unbind .ensures ∙ ap (λ (u : Bits). unbind (a .drivers .now) u queues) away)
     (start .good .1 .1 .0)
@@ -37,7 +35,6 @@ configure-spec =
     (tie.spec
     (λ c κs. search needs)
     returns
-    (λ c κs. search needs)
     (λ c κs. search needs)
     (λ c κs. search needs)
     (λ c κs. search needs)

@@ -2,12 +2,13 @@
 -- Assumes nothing.
 use native.Mathlib.Omega.{arith}
 use denote.Ref.{now}
-use mathlib.Core.Path.{refl}
+use mathlib.Core.Path.{refl, ap, _∙_}
 use lib.ListN.{length}
 use borrow.Author.Needs.{needs}
 use Rattle.errno.specs.Errno.{numberOf}
 use Rattle.errno.specs.declared.Errno.the-variants.{Enoent, Enospc}
 use Rattle.rules.specs.Commands.{answered}
+use Rattle.product.specs.Meet.{queuesOf}
 use Rattle.listing.proofs.Laws.{refused-listing, written-listing, errno-absent, errno-short, errno-none, matrix-at}
 use Rattle.listing.proofs.list.Statement.{statement}
 use Rattle.listing.proofs.list.Tie as tie
@@ -36,12 +37,13 @@ returns-3 : tie.Need-returns-3
 unfolding answered
 returns-3 c =
     let w = c .before .before .write in
-    let m = c .before .before .before .before .before .before in
+    let p = c .before .before .before .before in
+    let m = p .before in
     let f = m .before .before .before in
     let a = f .before .before .args in
     written-listing _ refl
     (errno-none (now (a .words)) (now (a .drivers)) (a .id) (f .find .ensures) (length (now (a .buf))) (omega arith) (omega arith))
-    (matrix-at (now (a .words)) (now (a .drivers)) (a .id) (f .find .ensures) (m .masks-at .ensures))
+    (ap queuesOf (p .of .ensures) ∙ matrix-at (now (a .words)) (now (a .drivers)) (a .id) (f .find .ensures) (m .masks-at .ensures))
     (w .ensures)
 
 pub list-spec : {M : Type 1} → statement M
@@ -53,6 +55,7 @@ list-spec =
     returns
     (λ c κs. search needs)
     returns-2
+    (λ c κs. search needs)
     (λ c κs. search needs)
     (λ c κs. search needs)
     (λ c. search needs)
