@@ -3,7 +3,7 @@
 use Prim.Native.Nat.{ℕ, _+_, _*_, _/_, _%_, _<_}
 use native.Mathlib.Nat.{mod-lt, div-lt-iff-lt-mul}
 use mathlib.Core.Bool.{Bool, true, false, _&&_, and-eq-true-iff}
-use mathlib.Core.Path.{_≡_, refl, sym, ap, ap₂, subst, _∙_}
+use mathlib.Core.Path.{_≡_, sym, ap, ap₂, subst, _∙_}
 use lib.Dec.{lit<}
 use Rattle.mask.specs.Bits.{Bits, bits, noBits, both, someBelow}
 use Rattle.mask.proofs.Laws.{same-test, some-intro, some-elim}
@@ -38,7 +38,7 @@ meet a d a′ d′ =
       );
     }
 
--- such a test is the rules' own over all queues, of a set that the other product has the queues of
+-- the rules look for the queue among all, and name the second set otherwise (s for b)
 pub meet-test : {a b s : Bits} {r : Bool} → Meet a b r → b ≡ s → r ≡ someBelow queues (both a s)
 meet-test {a} {b} m e =
     same-test
@@ -46,43 +46,45 @@ meet-test {a} {b} m e =
     (λ t. let f = some-elim queues (both a b) t in m .exactly .1 (f .0, f .1, both-left a b (f .0) (f .2), both-right a b (f .0) (f .2)))
     ∙ ap (λ (u : Bits). someBelow queues (both a u)) e
 
--- a test of a queue tells the same of such a set
+-- the same for one queue
 pub has-test : {m s : Bits} (q : ℕ) {x : Bool} → x ≡ m q → m ≡ s → x ≡ s q
 has-test q p e = p ∙ ap (λ (u : Bits). u q) e
 
 -- a product by its masks
 pub product-of : (p : Product) {a d : Bits} → bits (p .adapters) ≡ a → bits (p .domains) ≡ d → ProductOf a d (inProduct a d) p
-product-of p e f = record { adapters = e; domains = f; queues = ap₂ inProduct e f }
+product-of p e f = record { adapters = e; domains = f; members = ap₂ inProduct e f }
 
 -- no adapter and no domain make no queue
 pub product-none : (p : Product) → bits (p .adapters) ≡ noBits → bits (p .domains) ≡ noBits → ProductOf noBits noBits noBits p
 unfolding inProduct noBits
 product-none p e f = product-of p e f
 
--- the tests as they are made: of the adapters first, and where they do, of the domains
+-- the tests as they are made: of the adapters first, and where that is yes, of the domains
 module _ (p o : Product) {x : Bool} (adapters : x ≡ someBelow 256 (both (bits (p .adapters)) (bits (o .adapters)))) where
+  met : Meet (queuesOf p) (queuesOf o) (x && someBelow 256 (both (bits (p .domains)) (bits (o .domains))))
+  met = rw adapters (meet (bits (p .adapters)) (bits (p .domains)) (bits (o .adapters)) (bits (o .domains)))
+
   pub meet-both : {y : Bool} → x ≡ true → y ≡ someBelow 256 (both (bits (p .domains)) (bits (o .domains))) → Meet (queuesOf p) (queuesOf o) y
-  meet-both e domains =
-      subst (Meet (queuesOf p) (queuesOf o)) (ap₂ _&&_ (sym adapters ∙ e) (sym domains))
-      (meet (bits (p .adapters)) (bits (p .domains)) (bits (o .adapters)) (bits (o .domains)))
+  meet-both e domains = subst (Meet (queuesOf p) (queuesOf o)) (ap₂ _&&_ e (sym domains)) met
 
   pub meet-not : x ≡ false → Meet (queuesOf p) (queuesOf o) x
-  meet-not e =
-      subst (Meet (queuesOf p) (queuesOf o)) (ap (λ (b : Bool). b && someBelow 256 (both (bits (p .domains)) (bits (o .domains)))) (sym adapters ∙ e) ∙ sym e)
-      (meet (bits (p .adapters)) (bits (p .domains)) (bits (o .adapters)) (bits (o .domains)))
+  meet-not e = subst (Meet (queuesOf p) (queuesOf o)) (ap (λ (b : Bool). b && someBelow 256 (both (bits (p .domains)) (bits (o .domains)))) e ∙ sym e) met
 
 module _ (p : Product) (a : ℕ) {x : Bool} (adapter : x ≡ bits (p .adapters) a) where
+  had : (d : ℕ) {b : Bool} → d < 256 → x ≡ b → (b && bits (p .domains) d) ≡ queuesOf p (a * 256 + d)
+  had d h e = ap (λ (c : Bool). c && bits (p .domains) d) (sym e ∙ adapter) ∙ sym (in-product (bits (p .adapters)) (bits (p .domains)) a d h)
+
   -- a queue of an adapter that is there, and of one that is not
   pub has-both : (d : ℕ) {y : Bool} → d < 256 → x ≡ true → y ≡ bits (p .domains) d → y ≡ queuesOf p (a * 256 + d)
-  has-both d h e domain = domain ∙ ap (λ (b : Bool). b && bits (p .domains) d) (sym e ∙ adapter) ∙ sym (in-product (bits (p .adapters)) (bits (p .domains)) a d h)
+  has-both d h e domain = domain ∙ had d h e
 
   pub has-not : (d : ℕ) → d < 256 → x ≡ false → x ≡ queuesOf p (a * 256 + d)
-  has-not d h e = e ∙ ap (λ (b : Bool). b && bits (p .domains) d) (sym e ∙ adapter) ∙ sym (in-product (bits (p .adapters)) (bits (p .domains)) a d h)
+  has-not d h e = e ∙ had d h e
 
   -- all queues of an adapter
   pub row-of : x ≡ true → Row (queuesOf p) a (bits (p .domains))
-  row-of e = λ d h. has-both d h e refl
+  row-of e = λ d h. had d h e
 
   pub row-none : {m : Bits} → x ≡ false → m ≡ noBits → Row (queuesOf p) a m
   unfolding noBits
-  row-none e none = λ d h. ap (λ (f : Bits). f d) none ∙ sym e ∙ has-not d h e
+  row-none e none = λ d h. ap (λ (f : Bits). f d) none ∙ had d h e

@@ -17,12 +17,12 @@ queuesOf p = inProduct (bits (p .adapters)) (bits (p .domains))
 pub record ProductOf (a d qs : Bits) (p : Product) : Type 0 where
   pub adapters : bits (p .adapters) ≡ a
   pub domains : bits (p .domains) ≡ d
-  pub queues : queuesOf p ≡ qs
+  pub members : queuesOf p ≡ qs
 
 -- r is yes exactly when some queue is in both a and b
 pub record Meet (a b : Bits) (r : Bool) : Type 0 where
   pub exactly : (r ≡ true) ↔ ((q : ℕ) × (q < queues) × (a q ≡ true) × (b q ≡ true))
 
--- m has a domain exactly when its queue with adapter a is among some queues
+-- m has just the domains whose queue with adapter a is one of the queues qs
 abbrev pub Row : Bits → ℕ → Bits → Type 0
-Row some a m = (d : ℕ) → d < 256 → m d ≡ some (a * 256 + d)
+Row qs a m = (d : ℕ) → d < 256 → m d ≡ qs (a * 256 + d)

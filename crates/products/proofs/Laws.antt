@@ -20,7 +20,7 @@ module _ (v : Device) {x : Bool} (present : x ≡ v .present) where
       record {
         adapters = f ∙ by-test (v .adapters) e;
         domains = g ∙ by-test (v .domains) e;
-        queues = ap₂ inProduct f g ∙ by-test (inProduct (v .adapters) (v .domains)) e;
+        members = ap₂ inProduct f g ∙ by-test (inProduct (v .adapters) (v .domains)) e;
       }
 
   pub of-none : (p : Product) → x ≡ false → ProductOf noBits noBits noBits p → AssignedProduct v p
@@ -29,5 +29,5 @@ module _ (v : Device) {x : Bool} (present : x ≡ v .present) where
       record {
         adapters = none .adapters ∙ by-test (v .adapters) e;
         domains = none .domains ∙ by-test (v .domains) e;
-        queues = none .queues ∙ by-test (inProduct (v .adapters) (v .domains)) e;
+        members = none .members ∙ by-test (inProduct (v .adapters) (v .domains)) e;
       }

@@ -3,7 +3,7 @@
 use Prim.Native.Nat.{ℕ, zero, suc, _+_, _*_, _<_}
 use native.Mathlib.Omega.{arith}
 use native.Mathlib.Numerals.{add-one}
-use mathlib.Core.Bool.{Bool, true, false, cond, not, _&&_}
+use mathlib.Core.Bool.{Bool, false, cond, not, _&&_}
 use mathlib.Core.List.{List}
 use mathlib.Core.Path.{_≡_, refl, sym, ap, ap₂, _∙_}
 use lib.ListN.{set}
@@ -63,6 +63,6 @@ module _ (qs : List ℕ) (away : Bits) (a : ℕ) (m : Mask) (row : Row away a (b
       row-false qs a 256
       ∙ row-as qs (λ q. false) away a 256 (λ d h. sym (some-none 256 (bits m) e d h) ∙ row d h)
 
-  -- another
+  -- one of which some go: those of the domains
   pub row-some : unbindRow qs (withDomain m) a 256 ≡ unbindRow qs away a 256
   row-some = row-as qs (withDomain m) away a 256 (λ d h. ap (bits m) (queue-apqi a d h) ∙ row d h)

@@ -23,7 +23,7 @@ pub fn unbind(drivers: &mut Drivers, was: Product, is: Product)
     }
 }
 
-// Those of one adapter. One of which no queue goes is passed over.
+// Those of one adapter. An adapter of which no queue goes is passed over.
 fn unbind_row(drivers: &mut Drivers, was: Product, is: Product, adapter: Apid)
     ensures { λ r. ⌜ now (drivers .exit) ≡ unbindRow (now (drivers .entry)) (gone was is) (adapter .0) 256 ⌝ }
 {

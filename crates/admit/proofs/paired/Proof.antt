@@ -28,7 +28,7 @@ returns-3 : tie.Need-returns-3
 unfolding paired
 returns-3 c =
     let a = c .before .before .before .before .before .args in
-    c .empty2 .ensures .queues ∙ ap (λ (k : Kind). paired k (a .number) (deviceIn (a .words .now) (a .slot))) (sym (c .before .enum-told3 .given .1))
+    c .empty2 .ensures .members ∙ ap (λ (k : Kind). paired k (a .number) (deviceIn (a .words .now) (a .slot))) (sym (c .before .enum-told3 .given .1))
 
 pub paired-spec : {M : Type 1} → statement M
 paired-spec =

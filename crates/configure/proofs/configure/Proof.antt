@@ -22,7 +22,7 @@ returns-2 c =
     let test = words .before .before in
     let start = test .before .before .before in
     let a = start .args in
-    let away = gone-away (a .configuration) (a .words .now) (was .configured .result) (was .configured .ensures .queues) in
+    let away = gone-away (a .configuration) (a .words .now) (was .configured .result) (was .configured .ensures .members) in
     config-done (a .configuration) (a .words .now) (a .drivers .now) (sym (test .if1 .left) ∙ test .before .beyond .ensures) (c .put-configuration .ensures)
     (c .before .before .unbind .ensures ∙ ap (λ (u : Bits). unbind (a .drivers .now) u queues) away)
     (start .good .1 .1 .0)

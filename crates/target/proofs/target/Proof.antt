@@ -6,7 +6,6 @@ use mathlib.Core.Bool.{Bool, true, false, cond}
 use lib.Dec.{leb}
 use borrow.Author.Tests.{le-leb, lt-leb, not-true, not-false}
 use borrow.Author.Needs.{needs}
-use Rattle.rules.specs.declared.Driver.{Driver}
 use Rattle.rules.specs.declared.Driver.the-variants.{Unbound, Host, Passthrough}
 use Rattle.rules.specs.State.{apqn}
 use Rattle.rules.specs.Queues.{reserved, configured, targetOf}
@@ -24,14 +23,14 @@ by-tests : (c : tie.Start) → let a = c .args in
 by-tests c = let a = c .args in target-by (host (a .words)) (config (a .words)) (a .adapter .0) (a .domain .0) (omega arith)
 
 is-configured : (c : tie.After-has) → let a = c .before .before .args in c .has .result ≡ configured (config (a .words)) (apqn (a .adapter) (a .domain))
-is-configured c = let a = c .before .before .args in has-test (apqn (a .adapter) (a .domain)) (c .has .ensures) (c .before .configured .ensures .queues)
+is-configured c = let a = c .before .before .args in has-test (apqn (a .adapter) (a .domain)) (c .has .ensures) (c .before .configured .ensures .members)
 
 is-reserved : (c : tie.After-has2) →
     let a = c .before .before .before .before .before .args in
     c .has2 .result ≡ reserved (host (a .words)) (apqn (a .adapter) (a .domain))
 is-reserved c =
     let a = c .before .before .before .before .before .args in
-    has-test (apqn (a .adapter) (a .domain)) (c .has2 .ensures) (c .before .reserved .ensures .queues)
+    has-test (apqn (a .adapter) (a .domain)) (c .has2 .ensures) (c .before .reserved .ensures .members)
 
 -- past both tests, by the hardware type
 by-type : (c : tie.After-has2) → c .has2 .result ≡ false →

@@ -1,6 +1,5 @@
 -- `row` meets its contract. The facts are searched for, so that another row fails as a fact.
 -- Assumes nothing.
-use mathlib.Core.Path.{refl}
 use borrow.Author.Needs.{needs}
 use Rattle.product.proofs.Laws.{row-of, row-none}
 use Rattle.product.proofs.Product.row.Statement.{statement}
