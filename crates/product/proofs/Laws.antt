@@ -1,4 +1,4 @@
--- Two products share a queue exactly when their adapters meet and their domains meet.
+-- Two products share a queue exactly when their adapters meet and their domains meet. A queue in a product, the queues of one adapter.
 -- Assumes nothing.
 use Prim.Native.Nat.{ℕ, _+_, _*_, _/_, _%_, _<_}
 use native.Mathlib.Nat.{mod-lt, div-lt-iff-lt-mul}

@@ -1,4 +1,4 @@
--- The queues of a product, what it is made of, what it says that two sets of queues meet, and the queues of one adapter.
+-- The queues of a product; a product by its masks and its queues; when two sets of queues meet; the queues of one adapter.
 -- The rules: RULES.md, "Commands".
 -- Assumes nothing.
 use Prim.Native.Nat.{ℕ, _+_, _*_, _<_}

@@ -47,7 +47,7 @@ fn unbind_domains(drivers: &mut Drivers, adapter: Apid, domains: Mask)
     }
 }
 
-// Unbinds one of them.
+// Unbinds one queue, if its domain is among them.
 fn unbind_one(drivers: &mut Drivers, adapter: Apid, domains: Mask, domain: Apqi)
     ensures { λ r. ⌜ now (drivers .exit) ≡ unbindOne (now (drivers .entry)) (withDomain domains) (apqn adapter domain) ⌝ }
 {
