@@ -1,23 +1,21 @@
--- What is due of a queue, by its byte and its target.
+-- What is due of a queue, by its byte and its target; what is due of the queues of some adapters.
 -- Assumes nothing.
-use Prim.Native.Nat.{ℕ, _+_, _*_, _/_, _%_}
+use Prim.Native.Nat.{ℕ, _+_, _*_}
+use native.Mathlib.Nat.{zero-add}
 use native.Mathlib.Omega.{arith}
 use mathlib.Core.List.{List}
-use mathlib.Core.Path.{_≡_, refl, sym}
+use mathlib.Core.Path.{_≡_, refl, sym, ap, _∙_}
 use lib.ListN.{getD}
-use Rattle.rules.specs.State.{queues}
-use Rattle.rules.specs.Queues.{targetOf, due, dueAt}
+use Rattle.rules.specs.Queues.{targetOf, due, dueAt, sumFrom}
+use Rattle.rules.proofs.Sums.{sum-from-parts}
 use Rattle.layout.specs.Layout.{stateIn, hostIn, configIn, driverOf}
 
 pub due-read : (ws qs : List ℕ) (j : ℕ) → dueAt (stateIn ws qs) j ≡ due (driverOf (getD qs j 0)) (targetOf (hostIn ws) (configIn ws) j)
 unfolding dueAt stateIn
 due-read ws qs j = refl
 
--- a queue by its adapter and its domain, of any number
-pub split : (k : ℕ) → k / 256 % 256 * 256 + k % 256 ≡ k % queues
-split k = omega arith
-
-pub due-split : (ws qs : List ℕ) (k : ℕ)
-    → due (driverOf (getD qs (k / 256 % 256 * 256 + k % 256) 0)) (targetOf (hostIn ws) (configIn ws) (k / 256 % 256 * 256 + k % 256))
-    ≡ dueAt (stateIn ws qs) (k % queues)
-due-split ws qs k = rw (split k) (sym (due-read ws qs (k % queues)))
+-- the terms of some adapters' queues and those of the next
+pub row-more : (a : ℕ) (f : ℕ → ℕ) → sumFrom (a * 256) 0 f + sumFrom 256 (a * 256) f ≡ sumFrom ((a + 1) * 256) 0 f
+row-more a f =
+    let e : a * 256 + 256 ≡ (a + 1) * 256 = omega arith in
+    ap (λ (i : ℕ). sumFrom (a * 256) 0 f + sumFrom 256 i f) (sym (zero-add (a * 256))) ∙ sum-from-parts (a * 256) 256 0 f ∙ ap (λ (i : ℕ). sumFrom i 0 f) e

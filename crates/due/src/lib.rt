@@ -1,37 +1,20 @@
 // How far queues are from their targets: the moves that are due of one, and the moves remaining over all.
 //
-// Rests on mask, rules, layout, drivers and target.
+// Rests on mask, rules, layout, drivers and targetrow.
 use layout::Drivers;
 use layout::Words;
 use mask::Apid;
 use mask::Apqi;
 use rules::Driver;
+use targetrow::TargetRow;
 ghost use mathlib.Core.Path.{_≡_};
-ghost use Prim.Native.Nat.{_%_};
-ghost use Rattle.rules.specs.Queues.{targetOf, due, dueAt};
-ghost use Rattle.rules.specs.State.{queues};
-ghost use Rattle.layout.specs.Lent.{host, config, state};
+ghost use Prim.Native.Nat.{_*_};
+ghost use Rattle.rules.specs.Queues.{due, dueAt, sumFrom};
+ghost use Rattle.layout.specs.Lent.{state};
 ghost use Rattle.due.specs.Due.{Remains};
 
-// What a queue needs: the moves that it is from its target, and the target.
-pub struct Need {
-    pub due: u32,
-    pub target: Driver,
-}
-
-// What a queue needs; its target is computed once. Past the last queue the numbers begin again.
-pub fn need_at(words: &Words, drivers: &Drivers, queue: usize) -> Need
-    ensures due { λ r. ⌜ r .due ≡ dueAt (state (words .entry) (drivers .entry)) (queue % queues) ⌝ }
-    ensures target { λ r. ⌜ r .target ≡ targetOf (host (words .entry)) (config (words .entry)) (queue % queues) ⌝ }
-{
-    let a = Apid((queue / 256 % 256) as u8);
-    let d = Apqi((queue % 256) as u8);
-    let t = target::target(words, a, d);
-    let n = due_by(drivers::driver(drivers, a, d), t);
-    Need { due: n, target: t }
-}
-
-fn due_by(driver: Driver, target: Driver) -> u32
+// The moves that a queue is from its target.
+pub fn due_by(driver: Driver, target: Driver) -> u32
     ensures { λ r. ⌜ r ≡ due driver target ⌝ }
 {
     match driver {
@@ -58,9 +41,25 @@ pub fn remaining(words: &Words, drivers: &Drivers) -> u32
     ensures { λ r. ⌜ Remains (words .entry) (drivers .entry) r ⌝ }
 {
     let mut sum: u32 = 0;
-    for queue in 0..rules::QUEUES {
-        let need = need_at(words, drivers, queue);
-        sum += need.due;
+    let mut adapter = 0usize;
+    while adapter < 256 {
+        sum += remaining_row(words, drivers, Apid(adapter as u8));
+        adapter += 1;
+    }
+    sum
+}
+
+// Those of one adapter's queues.
+fn remaining_row(words: &Words, drivers: &Drivers, adapter: Apid) -> u32
+    ensures { λ r. ⌜ r ≡ sumFrom 256 (adapter .0 * 256) (dueAt (state (words .entry) (drivers .entry))) ⌝ }
+{
+    let row = TargetRow::of(words, adapter);
+    let mut sum: u32 = 0;
+    let mut domain = 0usize;
+    while domain < 256 {
+        let d = Apqi(domain as u8);
+        sum += due_by(drivers::driver(drivers, adapter, d), row.target(d));
+        domain += 1;
     }
     sum
 }

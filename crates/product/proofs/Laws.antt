@@ -50,6 +50,10 @@ meet-test {a} {b} m e =
 pub has-test : {m s : Bits} (q : ℕ) {x : Bool} → x ≡ m q → m ≡ s → x ≡ s q
 has-test q p e = p ∙ ap (λ (u : Bits). u q) e
 
+-- the same for the queues of one adapter
+pub row-test : {m s r : Bits} (a : ℕ) → Row m a r → m ≡ s → Row s a r
+row-test a row e = λ d h. has-test (a * 256 + d) (row d h) e
+
 -- a product by its masks
 pub product-of : (p : Product) {a d : Bits} → bits (p .adapters) ≡ a → bits (p .domains) ≡ d → ProductOf a d (inProduct a d) p
 product-of p e f = record { adapters = e; domains = f; members = ap₂ inProduct e f }

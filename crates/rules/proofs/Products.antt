@@ -35,10 +35,6 @@ queue-apqi a d h = digits-mod a h
 pub queue-below : (a d : ℕ) → a < 256 → d < 256 → a * 256 + d < queues
 queue-below a d h k = omega arith
 
--- a queue by the bytes of its adapter and its domain
-pub queue-split : (k : ℕ) → k < queues → k / 256 % 256 * 256 + k % 256 ≡ k
-queue-split k h = omega arith
-
 -- a queue in a product, by its adapter and its domain
 pub in-product : (us vs : Bits) (a d : ℕ) → d < 256 → inProduct us vs (a * 256 + d) ≡ (us a && vs d)
 unfolding inProduct

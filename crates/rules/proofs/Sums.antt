@@ -6,7 +6,7 @@ use native.Mathlib.Numerals.{add-one}
 use native.Mathlib.Omega.{arith}
 use mathlib.Core.Path.{_≡_, refl, sym, ap, ap₂, subst, _∙_}
 use mathlib.Core.Logic.{⊎-elim}
-use Rattle.rules.specs.Queues.{sumBelow}
+use Rattle.rules.specs.Queues.{sumBelow, sumFrom}
 
 -- no term, and one term more
 pub sum-none : (f : ℕ → ℕ) → sumBelow 0 f ≡ 0
@@ -56,16 +56,42 @@ unfolding sumBelow
 zero-sum zero f e = refl
 zero-sum (suc n) f e = omega (arith, zero-sum n f (λ j h. e j (omega arith)), e n (omega arith))
 
--- the sum of the n terms from k on
-unfoldable pub sumFrom : ℕ → ℕ → (ℕ → ℕ) → ℕ
-sumFrom zero k f = 0
-sumFrom (suc n) k f = f k + sumFrom n (suc k) f
+-- the terms from k on: none, the first, equal ones, some of at most c
+pub sum-from-none : (k : ℕ) (f : ℕ → ℕ) → sumFrom 0 k f ≡ 0
+unfolding sumFrom
+sum-from-none k f = refl
+
+pub sum-from-first : (n k : ℕ) (f : ℕ → ℕ) → sumFrom (suc n) k f ≡ f k + sumFrom n (suc k) f
+unfolding sumFrom
+sum-from-first n k f = refl
 
 pub sum-from-cong : (n k : ℕ) (f g : ℕ → ℕ) → ((j : ℕ) → k ≤ j → f j ≡ g j) → sumFrom n k f ≡ sumFrom n k g
 unfolding sumFrom
 sum-from-cong zero k f g e = refl
 sum-from-cong (suc n) k f g e = ap₂ (λ (a b : ℕ). a + b) (e k (le-refl k)) (sum-from-cong n (suc k) f g (λ j h. e j (omega arith)))
 
+pub sum-from-le : (n k c : ℕ) (f : ℕ → ℕ) → ((j : ℕ) → f j ≤ c) → sumFrom n k f ≤ c * n
+unfolding sumFrom
+sum-from-le zero k c f h = omega arith
+sum-from-le (suc n) k c f h = omega (arith, sum-from-le n (suc k) c f h, h k, mul-suc c n)
+
+-- some terms and those after them; one more
+pub sum-from-parts : (m n k : ℕ) (f : ℕ → ℕ) → sumFrom m k f + sumFrom n (k + m) f ≡ sumFrom (m + n) k f
+unfolding sumFrom
+sum-from-parts zero n k f = simp (zero-add, add-zero)
+sum-from-parts (suc m) n k f =
+    let e : suc (m + n) ≡ suc m + n = omega arith in
+    let c : sumFrom n (k + suc m) f ≡ sumFrom n (suc k + m) f = ap (λ (i : ℕ). sumFrom n i f) (omega arith) in
+    subst (λ (i : ℕ). sumFrom (suc m) k f + sumFrom n (k + suc m) f ≡ sumFrom i k f) e (omega (arith, c, sum-from-parts m n (suc k) f))
+
+pub sum-from-one : (k : ℕ) (f : ℕ → ℕ) → sumFrom 1 k f ≡ f k
+unfolding sumFrom
+sum-from-one k f = add-zero (f k)
+
+pub sum-from-more : (n k : ℕ) (f : ℕ → ℕ) → sumFrom (n + 1) k f ≡ sumFrom n k f + f (k + n)
+sum-from-more n k f = omega (arith, sum-from-parts n 1 k f, sum-from-one (k + n) f)
+
+-- together with the terms below k
 pub sum-split : (n k : ℕ) (f : ℕ → ℕ) → sumBelow k f + sumFrom n k f ≡ sumBelow (k + n) f
 unfolding sumFrom sumBelow
 sum-split zero k f = rw (add-zero k) (add-zero (sumBelow k f))

@@ -9,9 +9,9 @@ use lib.Dec.{eqb}
 use lib.ListN.{length, replicate, length-append, length-replicate}
 use borrow.Author.Tests.{eqb-true, eq-eqb, not-false}
 use Rattle.rules.specs.State.{State, queues}
-use Rattle.rules.specs.Queues.{dueAt, remaining, move, moves, mostMoves, movesUsed}
+use Rattle.rules.specs.Queues.{sumFrom, dueAt, remaining, move, moves, mostMoves, movesUsed}
 use Rattle.rules.specs.Sweeps.{sweptFrom, swept, moveEach, EachDue, Sweep}
-use Rattle.rules.proofs.Sums.{sum-le, sumFrom, sum-from-cong, sum-all}
+use Rattle.rules.proofs.Sums.{sum-le, sum-from-cong, sum-all}
 use Rattle.rules.proofs.Moves.{due-here, due-two, spent-at, idle-due, moves-other, remaining-moves, remaining-none}
 
 -- ---- the moves remaining
@@ -40,7 +40,7 @@ remaining-sweep (suc n) k b s h =
     omega (arith, here, ahead-same m n k s, remaining-sweep n (suc k) (b - m) t (omega arith))
 
 -- the moves remaining are what all queues need
-all-due : (s : State) → sumFrom queues 0 (dueAt s) ≡ remaining s
+pub all-due : (s : State) → sumFrom queues 0 (dueAt s) ≡ remaining s
 unfolding remaining
 all-due s = sum-all queues (dueAt s)
 

@@ -73,6 +73,11 @@ unfoldable pub sumBelow : ℕ → (ℕ → ℕ) → ℕ
 sumBelow zero f = 0
 sumBelow (suc n) f = sumBelow n f + f n
 
+-- the sum of the n terms from k on
+unfoldable pub sumFrom : ℕ → ℕ → (ℕ → ℕ) → ℕ
+sumFrom zero k f = 0
+sumFrom (suc n) k f = f k + sumFrom n (suc k) f
+
 -- the moves that queue q still needs
 unfoldable pub dueAt : State → ℕ → ℕ
 dueAt s q = due (s .driver q) (target s q)

@@ -1,8 +1,7 @@
--- The bytes that several moves and sweeps write, read as moves and sweeps of the state; a sweep by turns.
+-- The bytes that several moves and sweeps write, read as moves and sweeps of the state; a sweep part by part.
 -- Assumes nothing.
 use Prim.Native.Nat.{ℕ, zero, suc, _+_, _-_, _≤_, _<_, min}
-use native.Mathlib.Nat.{le-refl}
-use native.Mathlib.Numerals.{add-one}
+use native.Mathlib.Nat.{add-zero, zero-add}
 use native.Mathlib.Omega.{arith}
 use mathlib.Core.Path.{_≡_, refl, sym, ap, ap₂, _∙_}
 use mathlib.Core.Bool.{Bool, true, false, cond, not}
@@ -14,8 +13,8 @@ use borrow.Author.Tests.{eq-eqb, ne-eqb, ltb-true, ltb-false}
 use Rattle.rules.specs.declared.Driver.{Driver}
 use Rattle.rules.specs.declared.Driver.the-variants.{Unbound, Host, Passthrough}
 use Rattle.rules.specs.State.{queues}
-use Rattle.rules.specs.Queues.{targetOf, moved, due, dueAt, sumBelow, remaining, moves, mostMoves, movesUsed}
-use Rattle.rules.proofs.Sums.{sum-none, sum-more, sumFrom, sum-split}
+use Rattle.rules.specs.Queues.{targetOf, moved, due, dueAt, sumFrom, remaining, moves, mostMoves, movesUsed}
+use Rattle.rules.proofs.Sums.{sum-from-none, sum-from-first, sum-from-cong, sum-from-parts}
 use Rattle.rules.proofs.Sweeps.{sweepFrom, sweep, remaining-swept, sweeping}
 use Rattle.layout.specs.Layout.{stateIn, hostIn, configIn, driverOf, byteOf}
 use Rattle.layout.proofs.Laws.{driver-of-byte}
@@ -114,22 +113,22 @@ sweep-length ws (suc n) k b qs =
     let m = min b (dueAt (stateIn ws qs) k) in
     sweep-length ws n (suc k) (b - m) (movesBytes ws m k qs) ∙ moves-length ws m k qs
 
--- one turn, of a queue that needs m moves of those that are left
-pub sweep-turn : (ws : List ℕ) (n k b m : ℕ) (qs : List ℕ) → 0 < n → m ≡ min b (dueAt (stateIn ws qs) k)
-    → sweepBytes ws n k b qs ≡ sweepBytes ws (n - 1) (k + 1) (b - m) (movesBytes ws m k qs)
+-- the bytes of the queues past a sweep, and what is due of them
+sweep-ahead : (ws : List ℕ) (n k b : ℕ) (qs : List ℕ) (j : ℕ) → k + n ≤ j → getD (sweepBytes ws n k b qs) j 0 ≡ getD qs j 0
 unfolding sweepBytes
-sweep-turn ws zero k b m qs h e = absurd (omega arith)
-sweep-turn ws (suc n) k b m qs h e =
-    let c : suc n - 1 ≡ n = omega arith in
-    rw (c, add-one, e)
+sweep-ahead ws zero k b qs j h = refl
+sweep-ahead ws (suc n) k b qs j h =
+    let m = min b (dueAt (stateIn ws qs) k) in
+    sweep-ahead ws n (suc k) (b - m) (movesBytes ws m k qs) j (omega arith) ∙ moves-other-byte ws m k qs j (λ e. omega arith)
 
--- no queue is left
-pub sweep-none : (ws : List ℕ) (n k b : ℕ) (qs : List ℕ) → n ≡ 0 → sweepBytes ws n k b qs ≡ qs
-unfolding sweepBytes
-sweep-none ws n k b qs e = rw e
+due-ahead : (ws : List ℕ) (n k b : ℕ) (qs : List ℕ) (m : ℕ)
+    → sumFrom m (k + n) (dueAt (stateIn ws (sweepBytes ws n k b qs))) ≡ sumFrom m (k + n) (dueAt (stateIn ws qs))
+due-ahead ws n k b qs m =
+    let rs = sweepBytes ws n k b qs in
+    sum-from-cong m (k + n) (dueAt (stateIn ws rs)) (dueAt (stateIn ws qs)) (λ j h. due-byte ws rs qs j (sweep-ahead ws n k b qs j h))
 
 -- no move is left
-pub sweep-nothing : (ws : List ℕ) (n k b : ℕ) (qs : List ℕ) → b ≡ 0 → sweepBytes ws n k b qs ≡ qs
+sweep-nothing : (ws : List ℕ) (n k b : ℕ) (qs : List ℕ) → b ≡ 0 → sweepBytes ws n k b qs ≡ qs
 unfolding sweepBytes
 sweep-nothing ws zero k b qs e = refl
 sweep-nothing ws (suc n) k b qs e =
@@ -137,65 +136,64 @@ sweep-nothing ws (suc n) k b qs e =
     let z : m ≡ 0 = omega arith in
     sweep-nothing ws n (suc k) (b - m) (movesBytes ws m k qs) (omega arith) ∙ ap (λ (i : ℕ). movesBytes ws i k qs) z ∙ no-moves ws k qs
 
--- a sweep of n queues with b moves to make, come to queue k with some left and the bytes qs; it began with the bytes rs
-pub record Underway (ws rs : List ℕ) (n b k left : ℕ) (qs : List ℕ) : Type 0 where
-  pub below : k ≤ n
-  pub bytes : sweepBytes ws n 0 b rs ≡ sweepBytes ws (n - k) k left qs
-  pub made : b ≡ left + sumBelow k (dueAt (stateIn ws rs))
-  pub ahead : (j : ℕ) → k ≤ j → getD qs j 0 ≡ getD rs j 0
+-- a sweep of one queue
+pub sweep-one : (ws : List ℕ) (k b m : ℕ) (qs : List ℕ) → m ≡ min b (dueAt (stateIn ws qs) k) → sweepBytes ws 1 k b qs ≡ movesBytes ws m k qs
+unfolding sweepBytes
+sweep-one ws k b m qs e = ap (λ (i : ℕ). movesBytes ws i k qs) (sym e)
 
-pub sweep-starts : (ws rs : List ℕ) (n b : ℕ) → Underway ws rs n b 0 b rs
-sweep-starts ws rs n b =
-    let e : n - 0 ≡ n = omega arith in
-    record {
-      below = omega arith;
-      bytes = ap (λ (i : ℕ). sweepBytes ws i 0 b rs) (sym e);
-      made = omega (arith, sum-none (dueAt (stateIn ws rs)));
-      ahead = λ j h. refl;
-    }
+-- a sweep of some queues and then of those after them, with the moves that are left
+sweep-parts : (ws : List ℕ) (m n k b : ℕ) (qs : List ℕ)
+    → sweepBytes ws (m + n) k b qs ≡ sweepBytes ws n (k + m) (b - sumFrom m k (dueAt (stateIn ws qs))) (sweepBytes ws m k b qs)
+unfolding sweepBytes
+sweep-parts ws zero n k b qs = let e : b - sumFrom 0 k (dueAt (stateIn ws qs)) ≡ b = omega (arith, sum-from-none k (dueAt (stateIn ws qs))) in rw (zero-add, add-zero, e)
+sweep-parts ws (suc m) n k b qs =
+    let s = stateIn ws qs in
+    let u = min b (dueAt s k) in
+    let rs = movesBytes ws u k qs in
+    let c : suc m + n ≡ suc (m + n) = omega arith in
+    let same : sumFrom m (suc k) (dueAt (stateIn ws rs)) ≡ sumFrom m (suc k) (dueAt s) =
+    sum-from-cong m (suc k) (dueAt (stateIn ws rs)) (dueAt s) (λ j h. due-byte ws rs qs j (moves-other-byte ws u k qs j (λ e. omega arith))) in
+    ap (λ (i : ℕ). sweepBytes ws i k b qs) c ∙ sweep-parts ws m n (suc k) (b - u) rs
+    ∙ ap₂ (λ (i j : ℕ). sweepBytes ws n i j (sweepBytes ws m (suc k) (b - u) rs)) (omega arith) (omega (arith, same, sum-from-first m k (dueAt s)))
 
-module _ {ws rs : List ℕ} {n b k left : ℕ} {qs : List ℕ} (w : Underway ws rs n b k left qs) where
-  -- what is due of the queue that the sweep has come to
-  pub due-now : dueAt (stateIn ws qs) k ≡ dueAt (stateIn ws rs) k
-  due-now = due-byte ws qs rs k (w .ahead k (le-refl k))
+-- a sweep from queue o on with b moves to make, past k queues: some moves are left; it began with the bytes rs and has come to qs
+pub record Underway (ws rs : List ℕ) (o b k left : ℕ) (qs : List ℕ) : Type 0 where
+  pub bytes : qs ≡ sweepBytes ws k o b rs
+  pub made : b ≡ left + sumFrom k o (dueAt (stateIn ws rs))
 
-  -- a sweep has as many queues as it began with
-  pub as-long : length qs ≡ length rs
-  as-long = sym (sweep-length ws (n - k) k left qs) ∙ sym (ap length (w .bytes)) ∙ sweep-length ws n 0 b rs
+pub sweep-starts : (ws rs : List ℕ) (o b : ℕ) → Underway ws rs o b 0 b rs
+unfolding sweepBytes
+sweep-starts ws rs o b = record { bytes = refl; made = omega (arith, sum-from-none o (dueAt (stateIn ws rs))) }
 
-  -- a turn that has moves enough
-  pub sweep-goes-on : k < n → (m : ℕ) → m ≡ dueAt (stateIn ws qs) k → m ≤ left → Underway ws rs n b (k + 1) (left - m) (movesBytes ws m k qs)
-  sweep-goes-on h m e l =
-      let c : n - k - 1 ≡ n - (k + 1) = omega arith in
-      record {
-        below = omega arith;
-        bytes =
-            w .bytes ∙ sweep-turn ws (n - k) k left m qs (omega arith) (omega arith)
-            ∙ ap (λ (i : ℕ). sweepBytes ws i (k + 1) (left - m) (movesBytes ws m k qs)) c;
-        made = omega (arith, w .made, due-now, sum-more k (dueAt (stateIn ws rs)));
-        ahead = λ j h. moves-other-byte ws m k qs j (λ f. omega arith) ∙ w .ahead j (omega arith);
-      }
+-- a sweep has as many queues as it began with
+pub as-long : {ws rs : List ℕ} {o b k left : ℕ} {qs : List ℕ} → Underway ws rs o b k left qs → length qs ≡ length rs
+as-long {ws} {rs} {o} {b} {k} w = ap length (w .bytes) ∙ sweep-length ws k o b rs
 
-  -- a turn that has not: the sweep ends here
-  pub sweep-stops : k < n → left < dueAt (stateIn ws qs) k → sweepBytes ws n 0 b rs ≡ movesBytes ws left k qs
-  sweep-stops h l =
-      w .bytes ∙ sweep-turn ws (n - k) k left left qs (omega arith) (omega arith)
-      ∙ sweep-nothing ws (n - k - 1) (k + 1) (left - left) (movesBytes ws left k qs) (omega arith)
+module _ {ws rs : List ℕ} {o b k left : ℕ} {qs : List ℕ} (w : Underway ws rs o b k left qs) (p m : ℕ) (at : p ≡ o + k) where
+  -- what is due of the m queues that come next
+  due-next : sumFrom m p (dueAt (stateIn ws qs)) ≡ sumFrom m (o + k) (dueAt (stateIn ws rs))
+  due-next = ap₂ (λ (x : List ℕ) (i : ℕ). sumFrom m i (dueAt (stateIn ws x))) (w .bytes) at ∙ due-ahead ws k o b rs m
 
-  pub made-fewer : k < n → left < dueAt (stateIn ws qs) k → b < sumBelow n (dueAt (stateIn ws rs))
-  made-fewer h l =
+  -- the bytes after them
+  next : sweepBytes ws m p left qs ≡ sweepBytes ws (k + m) o b rs
+  next =
+      let e : left ≡ b - sumFrom k o (dueAt (stateIn ws rs)) = omega (arith, w .made) in
+      (λ i. sweepBytes ws m (at i) (e i) (w .bytes i)) ∙ sym (sweep-parts ws k m o b rs)
+
+  -- they need no more than is left
+  pub goes-on : (rest : ℕ) (after : List ℕ) → after ≡ sweepBytes ws m p left qs → left ≡ rest + sumFrom m p (dueAt (stateIn ws qs)) → Underway ws rs o b (k + m) rest after
+  goes-on rest after e f = record { bytes = e ∙ next; made = omega (arith, w .made, due-next, sum-from-parts k m o (dueAt (stateIn ws rs))) }
+
+  -- they need more: the sweep ends here, however many queues it has
+  pub stops : (n : ℕ) → k + m ≤ n → left < sumFrom m p (dueAt (stateIn ws qs)) → (sweepBytes ws m p left qs ≡ sweepBytes ws n o b rs) × (b < sumFrom n o (dueAt (stateIn ws rs)))
+  stops n h l =
       let f = dueAt (stateIn ws rs) in
-      let c : k + 1 + (n - (k + 1)) ≡ n = omega arith in
-      let all : sumBelow (k + 1) f + sumFrom (n - (k + 1)) (k + 1) f ≡ sumBelow n f =
-      sum-split (n - (k + 1)) (k + 1) f ∙ ap (λ (i : ℕ). sumBelow i f) c in
-      omega (arith, w .made, due-now, sum-more k f, all)
-
-  -- every queue is passed
-  pub sweep-ends : n ≤ k → (qs ≡ sweepBytes ws n 0 b rs) × (b ≡ left + sumBelow n (dueAt (stateIn ws rs)))
-  sweep-ends h =
-      let e : k ≡ n = omega (arith, w .below) in (
-        sym (w .bytes ∙ sweep-none ws (n - k) k left qs (omega arith)),
-        w .made ∙ ap (λ (i : ℕ). left + sumBelow i (dueAt (stateIn ws rs))) e,
+      let x = n - (k + m) in
+      let c : k + m + x ≡ n = omega arith in
+      let short : b < sumFrom (k + m) o f = omega (arith, w .made, due-next, sum-from-parts k m o f) in (
+        next ∙ sym (sweep-nothing ws x (o + (k + m)) (b - sumFrom (k + m) o f) (sweepBytes ws (k + m) o b rs) (omega arith))
+            ∙ sym (sweep-parts ws (k + m) x o b rs) ∙ ap (λ (i : ℕ). sweepBytes ws i o b rs) c,
+        omega (arith, sum-from-parts (k + m) x o f, ap (λ (i : ℕ). sumFrom i o f) c),
       )
 
 -- a whole sweep, by the bytes that it leaves, its number, and whether more moves remain than it makes

@@ -2,7 +2,6 @@
 -- Assumes nothing.
 use native.Mathlib.Omega.{arith}
 use borrow.Author.Tests.{eq-eqb, ne-eqb}
-use Rattle.rules.proofs.Products.{queue-split}
 use borrow.Author.Needs.{needs}
 use Rattle.sweep.proofs.finish.Statement.{statement}
 use Rattle.sweep.proofs.finish.Tie as tie
@@ -11,9 +10,7 @@ returns : tie.Need-returns
 returns c = rw (eq-eqb (c .before .args .due) 0 (c .if1 .taken))
 
 returns-2 : tie.Need-returns-2
-returns-2 c =
-    let z = c .before .before .before in
-    rw (ne-eqb (z .args .due) 0 (λ z. omega arith), c .put-driver .ensures, queue-split (z .args .queue) (z .pre))
+returns-2 c = rw (ne-eqb (c .before .before .before .args .due) 0 (λ z. omega arith), c .put-driver .ensures)
 
 pub finish-spec : {M : Type 1} → statement M
-finish-spec = tie.close (tie.spec (λ c. search needs) (λ c. search needs) returns (λ c κs. search needs) returns-2)
+finish-spec = tie.close (tie.spec returns (λ c κs. search needs) returns-2)

@@ -3,7 +3,6 @@
 use native.Mathlib.Omega.{arith}
 use mathlib.Core.Path.{_≡_}
 use Rattle.sweep.specs.Sweeps.{movesBytes}
-use Rattle.rules.proofs.Products.{queue-split}
 use borrow.Author.Needs.{needs}
 use Rattle.sweep.proofs.settle.Statement.{statement}
 use Rattle.sweep.proofs.settle.Tie as tie
@@ -14,25 +13,13 @@ returns c = rw (c .if1 .taken)
 
 returns-2 : tie.Need-returns-2
 unfolding movesBytes
-returns-2 c =
-    let z = c .before .before .before .before in
-    rw (c .if2 .taken, c .before .move-queue .ensures .drivers, queue-split (z .args .queue) (z .pre .0))
+returns-2 c = rw (c .if2 .taken, c .before .move-queue .ensures .drivers)
 
 returns-3 : tie.Need-returns-3
 unfolding movesBytes
 returns-3 c =
-    let z = c .before .before .before .before .before .before in
-    let two : z .args .moves ≡ 2 = omega arith in
-    rw (two, c .move-queue2 .ensures .drivers, c .before .before .before .move-queue .ensures .drivers, queue-split (z .args .queue) (z .pre .0))
+    let two : c .before .before .before .before .before .before .args .moves ≡ 2 = omega arith in
+    rw (two, c .move-queue2 .ensures .drivers, c .before .before .before .move-queue .ensures .drivers)
 
 pub settle-spec : {M : Type 1} → statement M
-settle-spec =
-    tie.close
-    (tie.spec
-    (λ c. search needs)
-    (λ c. search needs)
-    returns
-    (λ c κs. search needs)
-    returns-2
-    (λ c κs. search needs)
-    returns-3)
+settle-spec = tie.close (tie.spec returns (λ c κs. search needs) returns-2 (λ c κs. search needs) returns-3)

@@ -9,9 +9,9 @@ use borrow.Author.Needs.{needs}
 use Rattle.rules.specs.declared.Driver.the-variants.{Unbound, Host, Passthrough}
 use Rattle.rules.specs.State.{apqn}
 use Rattle.rules.specs.Queues.{reserved, configured, targetOf}
+use Rattle.rules.proofs.Targets.{target-by}
 use Rattle.layout.specs.Lent.{host, config}
 use Rattle.product.proofs.Laws.{has-test}
-use Rattle.target.proofs.Laws.{target-by}
 use Rattle.target.proofs.target.Statement.{statement}
 use Rattle.target.proofs.target.Tie as tie
 
