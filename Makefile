@@ -121,18 +121,46 @@ target/outside/outside: $(LIB) outside/outside.rs outside/header.c include/zokor
 	rustc --edition 2021 -O -L native=target/outside -l static=header $(LINK) -o target/outside/outside outside/outside.rs
 
 # The library beside an ordinary Rust program, for speed; and what rustc makes of the same source, unchecked or checked, with names of
-# its own. Functions of the program begin at multiples of 64, so that its times hang less on where the linker puts them.
+# its own. Functions of the program and of the archives begin at multiples of 64, so that times hang less on where the linker puts them.
 BUILD = unchecked
+# $(1) is the directory that has both archives, $(2) and $(3) are what the sides are called.
+measure = FIRST=$(2) SECOND=$(3) rustc --edition 2021 -C opt-level=3 -C llvm-args=-align-all-functions=6 \
+	-L native=$(1) -l static=zokormendu -l static=port -o $(1)/bench bench/bench.rs && $(1)/bench
+# $(1) is the directory of a version, $(2) where its translation goes.
+translate = "$(1)/port/translate.py" $(2)/source && port/archive.sh $(2)/source $(2)/$(BUILD) $(BUILD)
 
 bench: library
 	@mkdir -p target/bench
-	port/translate.py target/bench/source
-	port/archive.sh target/bench/source target/bench/$(BUILD) $(BUILD)
-	nm -g --defined-only target/bench/$(BUILD)/zokormendu.o | awk '{n = $$3; sub(/^zk/, "port", n); print $$3, n}' >target/bench/names
-	objcopy --redefine-syms=target/bench/names target/bench/$(BUILD)/libzokormendu.a target/bench/libport.a
-	rustc --edition 2021 -C opt-level=3 -C llvm-args=-align-all-functions=6 $(LINK) -L native=target/bench -l static=port \
-	    -o target/bench/bench bench/bench.rs
-	target/bench/bench
+	$(call translate,.,target/bench)
+	bench/align.sh $(LIB) target/bench/libzokormendu.a
+	bench/align.sh target/bench/$(BUILD)/libzokormendu.a target/bench/libport.a port
+	$(call measure,target/bench,Rattle,translated)
+
+# This version beside another one, of which BEFORE is a clone, where the library is made too: each line of `make bench` in one process,
+# of the kit's archives and then of the translations; and, where valgrind is there, the instructions of single calls, of all four. The other
+# one must have the same functions and a record of the same size. RUSTC=... compiles both translations with another rustc.
+.PHONY: compare
+BEFORE =
+OTHER = target/compare
+
+compare: library
+	@[ -e "$(BEFORE)/Makefile" ] || { echo "BEFORE is to be a clone of another version: make compare BEFORE=../before"; exit 1; }
+	@$(MAKE) --no-print-directory -C "$(BEFORE)" library
+	@mkdir -p $(OTHER)/kit $(OTHER)/port
+	@$(call translate,.,$(OTHER)/after)
+	@$(call translate,$(BEFORE),$(OTHER)/before)
+	@bench/align.sh "$(BEFORE)/$(LIB)" $(OTHER)/kit/libzokormendu.a
+	@bench/align.sh $(LIB) $(OTHER)/kit/libport.a port
+	@bench/align.sh $(OTHER)/before/$(BUILD)/libzokormendu.a $(OTHER)/port/libzokormendu.a
+	@bench/align.sh $(OTHER)/after/$(BUILD)/libzokormendu.a $(OTHER)/port/libport.a port
+	@echo; echo "the kit's archives:"
+	@$(call measure,$(OTHER)/kit,before,after)
+	@echo; echo "the translations:"
+	@$(call measure,$(OTHER)/port,before,after)
+	@if command -v valgrind >/dev/null; then \
+	    echo; echo "instructions a call: the kit's before and after, the translation's before and after"; \
+	    bench/count.sh $(OTHER)/count "$(BEFORE)/$(LIB)" $(LIB) $(OTHER)/{before,after}/$(BUILD)/libzokormendu.a; \
+	fi
 
 # The library for the machine that the cards are in: translated to Rust, built for s390x, and tested under qemu. Installs Debian's
 # packages. SEED and STEPS are those of the outside test.

@@ -1,7 +1,8 @@
 //! Three sides on the same inputs in one process: the static library as the kit's compiler makes it ("Rattle"), the
 //! same source translated to Rust and compiled by rustc ("translated"), and an ordinary Rust program with four 64-bit
-//! words a mask ("Rust"). All give the same answers, which is asserted. Each line gives the best of several rounds, in
-//! nanoseconds a call, and the ratios of the first two to the third. Buffers are not cleared between calls.
+//! words a mask ("Rust"). Where the first two are other archives, the environment variables FIRST and SECOND name them when this
+//! is compiled. All give the same answers, which is asserted. Each line gives the best of several rounds, in nanoseconds a call,
+//! and the ratios of the first two to the third. Buffers are not cleared between calls.
 
 use std::hint::black_box;
 use std::time::{Duration, Instant};
@@ -784,8 +785,9 @@ fn best(rounds: usize, mut round: impl FnMut() -> [Duration; 3]) -> [Duration; 3
 
 fn show(name: &str, calls: u32, times: [Duration; 3]) {
     let [kit, port, rust] = times.map(|d| d.as_nanos() as f64 / calls as f64);
+    let (first, second) = (option_env!("FIRST").unwrap_or("Rattle"), option_env!("SECOND").unwrap_or("translated"));
     println!(
-        "{name:56} Rattle {kit:9.1} ns   translated {port:9.1} ns   Rust {rust:9.1} ns   ratio {:.2} and {:.2}",
+        "{name:56} {first} {kit:9.1} ns   {second} {port:9.1} ns   Rust {rust:9.1} ns   ratio {:.2} and {:.2}",
         kit / rust,
         port / rust
     );
