@@ -141,25 +141,25 @@ bench: library
 # one must have the same functions and a record of the same size. RUSTC=... compiles both translations with another rustc.
 .PHONY: compare
 BEFORE =
-OTHER = target/compare
+COMPARED = target/compare
 
 compare: library
 	@[ -e "$(BEFORE)/Makefile" ] || { echo "BEFORE is to be a clone of another version: make compare BEFORE=../before"; exit 1; }
 	@$(MAKE) --no-print-directory -C "$(BEFORE)" library
-	@mkdir -p $(OTHER)/kit $(OTHER)/port
-	@$(call translate,.,$(OTHER)/after)
-	@$(call translate,$(BEFORE),$(OTHER)/before)
-	@bench/align.sh "$(BEFORE)/$(LIB)" $(OTHER)/kit/libzokormendu.a
-	@bench/align.sh $(LIB) $(OTHER)/kit/libport.a port
-	@bench/align.sh $(OTHER)/before/$(BUILD)/libzokormendu.a $(OTHER)/port/libzokormendu.a
-	@bench/align.sh $(OTHER)/after/$(BUILD)/libzokormendu.a $(OTHER)/port/libport.a port
+	@mkdir -p $(COMPARED)/kit $(COMPARED)/port
+	@$(call translate,.,$(COMPARED)/after)
+	@$(call translate,$(BEFORE),$(COMPARED)/before)
+	@bench/align.sh "$(BEFORE)/$(LIB)" $(COMPARED)/kit/libzokormendu.a
+	@bench/align.sh $(LIB) $(COMPARED)/kit/libport.a port
+	@bench/align.sh $(COMPARED)/before/$(BUILD)/libzokormendu.a $(COMPARED)/port/libzokormendu.a
+	@bench/align.sh $(COMPARED)/after/$(BUILD)/libzokormendu.a $(COMPARED)/port/libport.a port
 	@echo; echo "the kit's archives:"
-	@$(call measure,$(OTHER)/kit,before,after)
+	@$(call measure,$(COMPARED)/kit,before,after)
 	@echo; echo "the translations:"
-	@$(call measure,$(OTHER)/port,before,after)
+	@$(call measure,$(COMPARED)/port,before,after)
 	@if command -v valgrind >/dev/null; then \
 	    echo; echo "instructions a call: the kit's before and after, the translation's before and after"; \
-	    bench/count.sh $(OTHER)/count "$(BEFORE)/$(LIB)" $(LIB) $(OTHER)/{before,after}/$(BUILD)/libzokormendu.a; \
+	    bench/count.sh $(COMPARED)/count "$(BEFORE)/$(LIB)" $(LIB) $(COMPARED)/{before,after}/$(BUILD)/libzokormendu.a; \
 	fi
 
 # The library for the machine that the cards are in: translated to Rust, built for s390x, and tested under qemu. Installs Debian's

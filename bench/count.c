@@ -83,7 +83,7 @@ static void sweep_idle(int k)
     must((int)zk_sweep(&record, ZK_MOST_MOVES, &more), 0);
 }
 
-/* Two moves of each queue. The devices are gone. */
+/* Two moves of each queue, after a change of apmask, which is counted too. The devices are gone. */
 static void sweep_exchange(int k)
 {
     uint8_t more;
