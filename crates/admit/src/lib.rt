@@ -1,6 +1,8 @@
 // Whether a number can be assigned to a device: its range, and the queues that it adds. Nothing is changed.
 //
 // Rests on errno, mask, rules, product, products, layout, record and lookup.
+#![tactic(auto)]
+
 ghost use Rattle.std.specs.Prelude.{◌≡◌, leb};
 ghost use Rattle.mask.specs.Bits.{some_below, both};
 ghost use Rattle.rules.specs.State.{queues};

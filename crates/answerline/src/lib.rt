@@ -1,6 +1,8 @@
 // The answer line to a line of the console.
 //
 // Rests on errno, copy, decimal, rules and movednames.
+#![tactic(auto)]
+
 ghost use Rattle.std.specs.Prelude.{◌++◌, ◌+◌, ◌≤◌, ◌<◌, length, take};
 ghost use Rattle.errno.specs.Errno.{number_of};
 ghost use Rattle.answerline.specs.Answers.{ended, command_line, move_line, sweep_line, said_line, longest, Puts};

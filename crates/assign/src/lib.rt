@@ -1,6 +1,8 @@
 // Assigning adapters, domains and control domains to a device by the text of a number, and taking them away.
 //
 // Rests on errno, number, numeral, rules, layout, admit and assignnumber.
+#![tactic(auto)]
+
 ghost use Rattle.assign.specs.Numbers.{Assigns, Unassigns};
 
 use errno::Errno;

@@ -1,6 +1,8 @@
 // Assigning adapters, domains and control domains to a device by number, and taking them away.
 //
 // Rests on errno, mask, rules, product, layout, record, store, lookup and admit.
+#![tactic(auto)]
+
 ghost use Rattle.std.specs.Prelude.{◌<◌, ◌≡◌};
 ghost use Rattle.rules.specs.State.{slots};
 ghost use Rattle.rules.specs.Commands.{assign_at, unassign_at};

@@ -1,6 +1,8 @@
 // A move of one queue towards its target.
 //
 // Rests on mask, rules, layout, drivers and target.
+#![tactic(auto)]
+
 ghost use Rattle.std.specs.Prelude.{◌≡◌};
 ghost use Rattle.rules.specs.Queues.{moved};
 ghost use Rattle.rules.specs.State.{apqn};

@@ -1,6 +1,8 @@
 // Assigning and unassigning by number, on a whole record and with an id as bytes: what a caller in C asks for.
 //
 // Rests on rules, fields, layout, assignnumber and served.
+#![tactic(auto)]
+
 ghost use Rattle.served.specs.Served.{id_in, NumberAssigns, NumberUnassigns};
 
 use fields::ID_BYTES;

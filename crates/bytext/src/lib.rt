@@ -1,6 +1,8 @@
 // Assigning and unassigning by the text of a number, on a whole record and with an id as bytes: what a caller in C asks for.
 //
 // Rests on rules, fields, layout, assign and served.
+#![tactic(auto)]
+
 ghost use Rattle.served.specs.Served.{id_in, AssignServes, UnassignServes};
 
 use fields::ID_BYTES;

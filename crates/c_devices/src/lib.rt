@@ -1,6 +1,8 @@
 // The C interface to a record and its devices: fresh, create, remove, open, close. include/zokormendu.h has the declarations.
 //
 // Rests on rules, fields, layout, model, setup, served and whole.
+#![tactic(auto)]
+
 ghost use Rattle.model.specs.Steps.{create, remove, open_it, close_it};
 ghost use Rattle.served.specs.Served.{id_in, FreshServes, Serves};
 

@@ -1,6 +1,8 @@
 // The C interface to the host's masks and the configuration: setting them. include/zokormendu.h has the declarations.
 //
 // Rests on fields, layout, model, served and whole.
+#![tactic(auto)]
+
 ghost use Rattle.fields.specs.Fields.{configuration_of};
 ghost use Rattle.model.specs.Steps.{set_apmask, set_aqmask, configure};
 ghost use Rattle.served.specs.Served.{Serves};

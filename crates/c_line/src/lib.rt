@@ -1,6 +1,8 @@
 // The C interface to the console's lines. include/zokormendu.h has the declaration.
 //
 // Rests on errno, layout, served, answerline, linetext and consoleline.
+#![tactic(auto)]
+
 ghost use Rattle.c_line.specs.Served.{LineServes};
 
 use answerline::LONGEST;

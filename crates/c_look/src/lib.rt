@@ -2,6 +2,8 @@
 // include/zokormendu.h has the declarations.
 //
 // Rests on mask, rules, fields, layout, controllist, seen and served.
+#![tactic(auto)]
+
 ghost use Rattle.layout.specs.Lent.{devices};
 ghost use Rattle.controllist.specs.Controls.{ControlsShown};
 ghost use Rattle.seen.specs.Seen.{DeviceShown, HolderShown};

@@ -1,6 +1,8 @@
 // The C interface to a device's matrix and guest_matrix, as masks and as text. include/zokormendu.h has the declarations.
 //
 // Rests on rules, fields, layout, guest, listing, matrixbytes, shown and served.
+#![tactic(auto)]
+
 ghost use Rattle.rules.specs.declared.Matrix.TheVariants.{Assigned, Guest};
 ghost use Rattle.layout.specs.Lent.{state};
 ghost use Rattle.guest.specs.Masks.{Shows};

@@ -1,6 +1,8 @@
 // The C interface to names. include/zokormendu.h has the declarations.
 //
 // Rests on errno, names and movednames.
+#![tactic(auto)]
+
 ghost use Rattle.names.specs.Names.{NameShown};
 ghost use Rattle.movednames.specs.Moves.{MovedShown};
 

@@ -1,6 +1,8 @@
 // The C interface: assigning and unassigning by number. include/zokormendu.h has the declarations.
 //
 // Rests on rules, fields, layout, served and bynumber.
+#![tactic(auto)]
+
 ghost use Rattle.rules.specs.declared.Kind.TheVariants.{Adapter, Domain, Control};
 ghost use Rattle.served.specs.Served.{id_in, NumberAssigns, NumberUnassigns};
 

@@ -2,6 +2,8 @@
 // declarations.
 //
 // Rests on mask, rules, fields, layout, guest, due, drivernumbers, request, shown and served.
+#![tactic(auto)]
+
 ghost use Rattle.std.specs.Prelude.{◌≡◌};
 ghost use Rattle.rules.specs.Queues.{target};
 ghost use Rattle.layout.specs.Lent.{state};

@@ -2,6 +2,8 @@
 // declarations.
 //
 // Rests on mask, fields, layout, record, matrixbytes and hostbytes.
+#![tactic(auto)]
+
 ghost use Rattle.std.specs.Prelude.{◌≡◌};
 ghost use Rattle.layout.specs.Lent.{limits, host, config};
 ghost use Rattle.matrixbytes.specs.Matrices.{mask_bytes};

@@ -1,5 +1,7 @@
 // Calls the functions of the service, and prints what each answers. The rows and the expected output are made by tests/cases.py,
 // with a model in Python that is written from the rules (docs/RULES.md) and shares no code with the library.
+#![tactic(auto)]
+
 use guest::Shown;
 use layout::{Drivers, WORDS, Words};
 use listing::Listed;

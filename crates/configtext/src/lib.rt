@@ -1,6 +1,8 @@
 // Reads the configuration of a console line: three masks in hex, then 512 hex digits for the hardware types.
 //
 // Rests on mask, errno, digits, split, linereader, masktext, rules and hexbytes.
+#![tactic(auto)]
+
 ghost use Rattle.std.specs.Prelude.{◌≡◌};
 ghost use Rattle.errno.specs.Outcome.{refused};
 ghost use Rattle.errno.specs.declared.Errno.TheVariants.{Einval};

@@ -1,6 +1,8 @@
 // The partition's configuration: setting it, and unbinding the queues that it takes away.
 //
 // Rests on errno, mask, limits, rules, product, products, layout, record, store and unbind.
+#![tactic(auto)]
+
 ghost use Rattle.std.specs.Prelude.{◌≡◌};
 ghost use Rattle.rules.specs.Commands.{beyond_limits};
 ghost use Rattle.layout.specs.Lent.{limits};

@@ -1,4 +1,6 @@
 // The console: commands from standard input, one a line, and one answer line each.
+#![tactic(auto)]
+
 fn main() {
     session::play();
 }

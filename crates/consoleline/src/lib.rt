@@ -2,6 +2,8 @@
 //
 // Rests on errno, mask, rules, model, layout, encoding, configure, bind, sweep, calls, request, run, served, split, configtext,
 // answerline, wordtext, linewords and linetext.
+#![tactic(auto)]
+
 ghost use Rattle.std.specs.Prelude.{◌≡◌, drop};
 ghost use Rattle.errno.specs.Outcome.{granted};
 ghost use Rattle.rules.specs.Queues.{most_moves};

@@ -1,6 +1,8 @@
 // The assigned control domains of a device as text: a line of four hex digits for each, by ascending number.
 //
 // Rests on errno, digits, copy, mask, rules, layout, lines, record and lookup.
+#![tactic(auto)]
+
 ghost use Rattle.std.specs.Prelude.{◌++◌, ◌≡◌, ◌+◌, ◌≤◌, length, drop};
 ghost use Rattle.std.proofs.Math.Seq.{paste};
 ghost use Rattle.mask.specs.Bits.{bits};

@@ -1,6 +1,8 @@
 // The control domains that a guest gets.
 //
 // Rests on mask, masks, rules, layout and record.
+#![tactic(auto)]
+
 ghost use Rattle.std.specs.Prelude.{◌≡◌};
 ghost use Rattle.mask.specs.Bits.{bits, either};
 ghost use Rattle.layout.specs.Lent.{config, devices};

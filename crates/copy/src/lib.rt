@@ -1,6 +1,8 @@
 // Copies bytes into a buffer.
 //
 // Rests on nothing.
+#![tactic(auto)]
+
 ghost use Rattle.std.specs.Prelude.{◌≡◌, ◌+◌, ◌≤◌, length};
 ghost use Rattle.std.proofs.Math.Seq.{paste};
 ghost use Rattle.copy.specs.Copied.{copied};

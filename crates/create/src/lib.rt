@@ -1,6 +1,8 @@
 // Creating a mediated device.
 //
 // Rests on errno, rules, layout, store and lookup.
+#![tactic(auto)]
+
 ghost use Rattle.rules.specs.Commands.{create};
 ghost use Rattle.layout.specs.Carried.{Obeys};
 ghost use Rattle.create.specs.Created.{created};

@@ -1,6 +1,8 @@
 // A number in decimal.
 //
 // Rests on nothing.
+#![tactic(auto)]
+
 ghost use Rattle.std.specs.Prelude.{◌≡◌, ◌+◌, ◌%◌, ◌++◌, length, replicate};
 ghost use Rattle.decimal.specs.Decimal.{decimal, most};
 

@@ -1,6 +1,8 @@
 // The life of a mediated device once it is created: remove, open, close.
 //
 // Rests on errno, rules, layout, record, store and lookup.
+#![tactic(auto)]
+
 ghost use Rattle.rules.specs.Commands.{remove, open_device, close_device};
 ghost use Rattle.layout.specs.Carried.{Obeys};
 ghost use Rattle.devices.specs.Effects.{removed, opened, closed, changing, changed};

@@ -1,6 +1,8 @@
 // What the texts of numbers and of masks have in common: the final newline, the prefix 0x, digits.
 //
 // Rests on nothing.
+#![tactic(auto)]
+
 ghost use Rattle.std.specs.Prelude.{◌≡◌, ◌%◌, length};
 ghost use Rattle.digits.specs.Digits.{digit_of, hex_digit, body, starts_hex};
 

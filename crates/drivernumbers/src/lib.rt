@@ -1,6 +1,8 @@
 // A queue's driver and its target, as numbers.
 //
 // Rests on mask, rules, layout, drivers and target.
+#![tactic(auto)]
+
 ghost use Rattle.std.specs.Prelude.{◌≡◌, get_or};
 ghost use Rattle.rules.specs.State.{apqn};
 ghost use Rattle.rules.specs.Queues.{target_of};

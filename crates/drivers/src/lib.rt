@@ -1,6 +1,8 @@
 // The drivers of the queues in the memory that the caller lends. No other crate's code knows a queue's byte.
 //
 // Rests on mask, rules and layout.
+#![tactic(auto)]
+
 ghost use Rattle.std.specs.Prelude.{◌≡◌, get_or, set, replicate};
 ghost use Rattle.rules.specs.State.{queues, apqn};
 ghost use Rattle.layout.specs.Layout.{driver_of, byte_of};

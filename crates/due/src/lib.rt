@@ -1,6 +1,8 @@
 // How far queues are from their targets: the moves that are due of one, and the moves remaining over all.
 //
 // Rests on mask, rules, layout, drivers and targetrow.
+#![tactic(auto)]
+
 ghost use Rattle.std.specs.Prelude.{◌≡◌, ◌*◌};
 ghost use Rattle.rules.specs.Queues.{due, due_at, sum_from};
 ghost use Rattle.layout.specs.Lent.{state};

@@ -1,6 +1,8 @@
 // A list of commands, moves and sweeps as bytes: where one step ends.
 //
 // Rests on rules, fields and model.
+#![tactic(auto)]
+
 ghost use Rattle.std.specs.Prelude.{◌≡◌, cond, drop};
 ghost use Rattle.encoding.specs.Encoding.{size_of, whole};
 

@@ -1,6 +1,8 @@
 // The eight errno values of the assignment service, with their names, as one constant table.
 //
 // Rests on nothing. Crates that refuse say why by an `Errno`.
+#![tactic(auto)]
+
 ghost use Rattle.std.specs.Prelude.{◌≡◌, length};
 ghost use Rattle.errno.specs.Errno.{number_of, name_of, padded, row_of};
 

@@ -3,6 +3,8 @@
 //
 // Rests on errno, rules, layout, setup, model, calls, encoding, request, run, served, split, copy, answerline, wordtext, linewords,
 // linetext and consoleline.
+#![tactic(auto)]
+
 ghost use Rattle.std.specs.Prelude.{◌≡◌, ◌+◌, ◌-◌, ◌*◌, ◌≤◌, min, length, take};
 ghost use Rattle.answerline.specs.Answers.{longest};
 ghost use Rattle.linetext.specs.Lines.{piece_request, line_request};

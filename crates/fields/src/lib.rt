@@ -1,6 +1,8 @@
 // An id, a kind of number and a configuration, read from bytes. Missing bytes are zeros.
 //
 // Rests on mask, maskbytes and rules.
+#![tactic(auto)]
+
 ghost use Rattle.std.specs.Prelude.{◌≡◌, ◌+◌, ◌*◌, ◌<◌, ◌≤◌, get_or};
 ghost use Rattle.fields.specs.Fields.{half_at, word_at, id_of, kind_of, mask_of, bytes_at, configuration_of};
 

@@ -1,6 +1,8 @@
 // What a guest gets: a device's masks, and whether a queue is usable now.
 //
 // Rests on mask, errno, rules, layout, product, record, lookup and matrix.
+#![tactic(auto)]
+
 ghost use Rattle.std.specs.Prelude.{◌≡◌, cond, ltb};
 ghost use Rattle.errno.specs.Errno.{number_of};
 ghost use Rattle.errno.specs.declared.Errno.TheVariants.{Enoent};

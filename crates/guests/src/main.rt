@@ -1,5 +1,7 @@
 // The three guests of the kernel's document on vfio-ap, from a bare record to running; then the accident: a rehearsal guest asks for
 // the live queue, and is refused by name. No control domain is assigned to guest 1: those of its masks are its usage domains.
+#![tactic(auto)]
+
 use guest::Shown;
 use layout::{Drivers, WORDS, Words};
 use mask::Mask;

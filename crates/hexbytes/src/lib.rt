@@ -1,6 +1,8 @@
 // Bytes written as hex digits, two each: the ids and the hardware types of a console line.
 //
 // Rests on errno, digits, masktext, rules and fields.
+#![tactic(auto)]
+
 ghost use Rattle.std.specs.Prelude.{◌≡◌, false};
 ghost use Rattle.hexbytes.specs.HexBytes.{id_text, types_text, id_read, types_read, no_id, no_types, Fills};
 

@@ -1,6 +1,8 @@
 // Which device has a queue.
 //
 // Rests on mask, rules, product, products and layout.
+#![tactic(auto)]
+
 ghost use Rattle.std.specs.Prelude.{◌≡◌};
 ghost use Rattle.rules.specs.State.{apqn};
 ghost use Rattle.rules.specs.Commands.{product};

@@ -1,6 +1,8 @@
 // The host's masks: apmask and aqmask.
 //
 // Rests on errno, mask, masktext, rules, product, layout, record, store and lookup.
+#![tactic(auto)]
+
 ghost use Rattle.std.specs.Prelude.{cond};
 ghost use Rattle.rules.specs.Commands.{set_apmask, set_aqmask};
 ghost use Rattle.layout.specs.Layout.{apmask_at, aqmask_at};

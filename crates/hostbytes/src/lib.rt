@@ -2,6 +2,8 @@
 // 32 bytes and 256 hardware types.
 //
 // Rests on mask, maskbytes, rules, fields, layout, record, matrixbytes and rows.
+#![tactic(auto)]
+
 ghost use Rattle.std.specs.Prelude.{◌≡◌, ◌++◌, ◌<◌, min, length, get_or};
 ghost use Rattle.layout.specs.Lent.{host, config};
 ghost use Rattle.matrixbytes.specs.Matrices.{mask_bytes};

@@ -1,6 +1,8 @@
 // The 16 bytes of an id.
 //
 // Rests on rules, fields and rows.
+#![tactic(auto)]
+
 ghost use Rattle.std.specs.Prelude.{◌≡◌, ◌<◌};
 ghost use Rattle.idbytes.specs.IdBytes.{word_byte, id_byte, AsBytes};
 

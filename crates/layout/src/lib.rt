@@ -3,6 +3,8 @@
 // lies.
 //
 // Rests on errno, mask and rules.
+#![tactic(auto)]
+
 ghost use Rattle.std.specs.Prelude.{◌≡◌};
 ghost use Rattle.mask.specs.Bits.{Small, Sized};
 ghost use Rattle.rules.specs.State.{queues};

@@ -1,6 +1,8 @@
 // Masks against limits: whether a bit above the highest number is set.
 //
 // Rests on mask and masks.
+#![tactic(auto)]
+
 ghost use Rattle.std.specs.Prelude.{◌-◌, ◌^◌, cond, ◌≡◌, ltb, eqb};
 ghost use Rattle.mask.specs.Bits.{bits, bits_above, both, some_below};
 

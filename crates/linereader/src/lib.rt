@@ -1,6 +1,8 @@
 // A line reader: a lent line and a place in it, kept together. A word is handed on as a part of the lent line.
 //
 // Rests on split.
+#![tactic(auto)]
+
 ghost use Rattle.std.specs.Prelude.{◌≡◌};
 ghost use Rattle.split.specs.Cut.{piece_from};
 

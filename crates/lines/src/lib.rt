@@ -1,6 +1,8 @@
 // The queues of a product as text: a line of eight bytes for each, by ascending queue.
 //
 // Rests on digits, copy, mask, rules and product.
+#![tactic(auto)]
+
 ghost use Rattle.std.specs.Prelude.{◌+◌, ◌≤◌, ◌<◌, ◌≡◌, length};
 ghost use Rattle.rules.specs.State.{queues};
 ghost use Rattle.product.specs.Meet.{queues_of};

@@ -2,6 +2,8 @@
 //
 // Rests on mask, errno, digits, number, masktext, rules, model, encoding, split, linereader, hexbytes, configtext, wordtext and
 // linewords.
+#![tactic(auto)]
+
 ghost use Rattle.std.specs.Prelude.{◌≡◌};
 ghost use Rattle.linewords.specs.Parsed.{asked};
 ghost use Rattle.linetext.specs.Lines.{piece_request, line_request};

@@ -1,6 +1,8 @@
 // The words of a console line, by how many there are: a command, a move, a sweep, or bad text.
 //
 // Rests on mask, errno, number, masktext, rules, model, encoding, split, hexbytes, configtext and wordtext.
+#![tactic(auto)]
+
 ghost use Rattle.std.specs.Prelude.{◌≡◌, [], ◌∷◌, ◌≤◌, drop};
 ghost use Rattle.rules.specs.declared.Kind.TheVariants.{Adapter};
 ghost use Rattle.encoding.specs.Encoding.{command_of};

@@ -1,6 +1,8 @@
 // Lists a device's matrix as text, part by part.
 //
 // Rests on mask, errno, masks, rules, layout, product, lines, lookup and matrix.
+#![tactic(auto)]
+
 ghost use Rattle.std.specs.Prelude.{◌≡◌, length};
 ghost use Rattle.errno.specs.Errno.{number_of};
 ghost use Rattle.mask.specs.Bits.{bits};

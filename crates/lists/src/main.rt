@@ -1,5 +1,7 @@
 // Carries out a list of commands, moves and sweeps from standard input, and prints the answers, and what the list left
 // before and after one more sweep. The list and the expected output are made by tests/lists.py.
+#![tactic(auto)]
+
 use layout::{Drivers, WORDS, Words};
 use mask::{Apid, Apqi};
 use rules::{Id, Matrix, QUEUES};

@@ -1,6 +1,8 @@
 // A mask of 256 bits as one value, and the two kinds of number that name its bits.
 //
 // Rests on nothing. Bit 0 is the most significant bit of the first word.
+#![tactic(auto)]
+
 ghost use Rattle.std.specs.Prelude.{◌≡◌};
 ghost use Rattle.mask.specs.Bits.{bits, no_bits, all_bits, included, excluded};
 

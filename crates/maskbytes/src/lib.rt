@@ -1,6 +1,8 @@
 // A mask as 32 bytes in mask order, and as hex digits.
 //
 // Rests on mask.
+#![tactic(auto)]
+
 ghost use Rattle.std.specs.Prelude.{◌≡◌, ◌+◌, ◌-◌, ◌*◌, ◌/◌, ◌%◌, ◌^◌, ◌<◌};
 ghost use Rattle.mask.specs.Bits.{bits, bit_at, either, group, number, numbers};
 

@@ -1,6 +1,8 @@
 // What is done with whole masks: and, or, minus, whether any bit is set, whether two meet, how many bits there are.
 //
 // Rests on mask.
+#![tactic(auto)]
+
 ghost use Rattle.std.specs.Prelude.{not, ◌&&◌, ◌≡◌};
 ghost use Rattle.mask.specs.Bits.{bits, both, either, some_below, count_below};
 

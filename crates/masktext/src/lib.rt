@@ -1,6 +1,8 @@
 // Reads the text of a mask: hex digits after 0x, or a list of items that are worked on the old mask.
 //
 // Rests on mask, errno, digits, maskbytes and number.
+#![tactic(auto)]
+
 ghost use Rattle.std.specs.Prelude.{◌≡◌, ℕ, ◌<◌, ◌≤◌, false, length, get_or, drop};
 ghost use Rattle.errno.specs.Outcome.{granted, refused};
 ghost use Rattle.errno.specs.declared.Errno.TheVariants.{Einval};

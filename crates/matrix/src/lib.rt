@@ -1,6 +1,8 @@
 // The matrices of the device at a slot: what is assigned, and what its guest gets.
 //
 // Rests on mask, masks, rules, layout, record, drivers and controls.
+#![tactic(auto)]
+
 ghost use Rattle.std.specs.Prelude.{◌≡◌, not, ◌&&◌};
 ghost use Rattle.mask.specs.Bits.{bits};
 ghost use Rattle.rules.specs.Queues.{passed};

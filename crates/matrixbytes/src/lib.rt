@@ -1,6 +1,8 @@
 // A device's matrix as bytes, for a caller in C: three masks of 32 bytes.
 //
 // Rests on copy, mask, maskbytes, rules, layout and guest.
+#![tactic(auto)]
+
 ghost use Rattle.std.specs.Prelude.{◌≡◌, ◌+◌, ◌≤◌, length};
 ghost use Rattle.std.proofs.Math.Seq.{paste};
 ghost use Rattle.mask.specs.Bits.{bits};

@@ -1,6 +1,8 @@
 // What a move did, as a word.
 //
 // Rests on errno, names and rules.
+#![tactic(auto)]
+
 ghost use Rattle.std.specs.Prelude.{◌≡◌, length};
 ghost use Rattle.errno.specs.Errno.{padded};
 ghost use Rattle.movednames.specs.Moves.{moved_word, CaseOf, MovedShown};

@@ -1,6 +1,8 @@
 // The name of an errno value, for a caller that has the number.
 //
 // Rests on errno.
+#![tactic(auto)]
+
 ghost use Rattle.names.specs.Names.{CaseOf, NameShown};
 
 use errno::{Errno, NAME_BYTES};

@@ -1,6 +1,8 @@
 // Reads the text of a number: base 16 after 0x, base 8 after a leading 0, else base 10.
 //
 // Rests on errno and digits.
+#![tactic(auto)]
+
 ghost use Rattle.std.specs.Prelude.{◌≡◌, cond, ◌+◌, ◌*◌, ltb, get_or, drop};
 ghost use Rattle.errno.specs.Outcome.{granted, refused};
 ghost use Rattle.errno.specs.declared.Errno.TheVariants.{Einval};

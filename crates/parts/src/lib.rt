@@ -1,6 +1,8 @@
 // The parts of a text between separators: the rows of a program's table, and the words of a row.
 //
 // Rests on the kit's bytes.
+#![tactic(auto)]
+
 ghost use Rattle.std.specs.Prelude.{◌≡◌, ◌≤◌, length, drop};
 ghost use Rattle.parts.specs.Parts.{past, part};
 

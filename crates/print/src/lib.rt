@@ -2,6 +2,8 @@
 // here say how much was handed over, or what it was made from.
 //
 // Rests on errno, mask, masks and rules, and on the kit's io.
+#![tactic(auto)]
+
 ghost use Rattle.std.specs.Prelude.{◌≡◌, ◌+◌, min, length};
 ghost use Rattle.io.specs.Digits.{IsDigitCount};
 ghost use Rattle.errno.specs.Errno.{number_of};

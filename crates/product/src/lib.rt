@@ -1,6 +1,8 @@
 // A product of adapters and domains: the queues whose adapter and whose domain are both in it.
 //
 // Rests on mask, masks and rules. Whether a queue is in a product, and whether two products share one, is asked here alone.
+#![tactic(auto)]
+
 ghost use Rattle.std.specs.Prelude.{◌≡◌};
 ghost use Rattle.mask.specs.Bits.{bits, no_bits};
 ghost use Rattle.rules.specs.State.{apqn};

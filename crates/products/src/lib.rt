@@ -1,6 +1,8 @@
 // The products that a record holds: the queues that the host reserves, those that are configured, those that a device has.
 //
 // Rests on mask, rules, product, layout and record.
+#![tactic(auto)]
+
 ghost use Rattle.layout.specs.Lent.{host, config, devices};
 ghost use Rattle.products.specs.Products.{ReservedProduct, ConfiguredProduct, AssignedProduct};
 

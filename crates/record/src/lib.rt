@@ -1,6 +1,8 @@
 // Reads the words of the record that the caller lends. `store` writes them.
 //
 // Rests on mask, rules and layout.
+#![tactic(auto)]
+
 ghost use Rattle.std.specs.Prelude.{◌≡◌, ◌+◌, ◌<◌, min};
 ghost use Rattle.mask.specs.Bits.{bits};
 ghost use Rattle.rules.specs.Commands.{numbers_of};

@@ -1,6 +1,8 @@
 // Carries out one request, by the function that a caller would call.
 //
 // Rests on mask, rules, fields, layout, model, encoding, host, configure, bind, devices, create, assign, sweep and calls.
+#![tactic(auto)]
+
 ghost use Rattle.layout.specs.Carried.{memory};
 ghost use Rattle.encoding.specs.Encoding.{move, sweep};
 ghost use Rattle.request.specs.Requests.{Stepped, Obeyed};

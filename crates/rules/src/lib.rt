@@ -1,6 +1,8 @@
 // The types of the assignment service, and what its answers are as numbers. Its rules are the definitions in specs/.
 //
 // Rests on errno, mask, number and masktext.
+#![tactic(auto)]
+
 ghost use Rattle.std.specs.Prelude.{◌≡◌};
 ghost use Rattle.rules.specs.Queues.{moved_number};
 ghost use Rattle.rules.specs.Commands.{answered};

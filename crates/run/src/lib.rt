@@ -1,6 +1,8 @@
 // Carries out a list of commands, moves and sweeps, with demand 3 as its contract.
 //
 // Rests on errno, mask, rules, fields, layout, setup, model, calls, encoding and request.
+#![tactic(auto)]
+
 ghost use Rattle.std.specs.Prelude.{◌≤◌, length, get_or};
 ghost use Rattle.run.specs.Running.{StepsOnce, CarriesOut, Runs};
 

@@ -1,6 +1,8 @@
 // What there is to see of devices: which one is in a slot, and which one has a queue. Their ids are left as bytes.
 //
 // Rests on errno, mask, rules, fields, layout, record, holder, idbytes and shown.
+#![tactic(auto)]
+
 ghost use Rattle.rules.specs.State.{apqn};
 ghost use Rattle.layout.specs.Lent.{devices};
 ghost use Rattle.seen.specs.Seen.{DeviceShown, HolderShown};

@@ -3,3 +3,4 @@
 //
 // Rests on rules, model, fields, layout, encoding, assignnumber, assign, host, configure, create, devices, sweep,
 // calls, request and shown.
+#![tactic(auto)]

@@ -2,6 +2,8 @@
 // read or written; what becomes of it is the contract of crate feed.
 //
 // Rests on errno, rules, layout, encoding, served, answerline, feed and the kit's io and libc.
+#![tactic(auto)]
+
 ghost use Rattle.std.specs.Prelude.{◌≡◌, ◌≤◌, length};
 ghost use Rattle.session.specs.Room.{most, room};
 ghost use Rattle.session.specs.Sessions.{Passes};

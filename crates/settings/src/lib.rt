@@ -2,3 +2,4 @@
 // proofs/Settings.antt proves each row. There is no code here.
 //
 // Rests on mask, errno, digits, number, masktext, rules, product, layout, model and lines.
+#![tactic(auto)]

@@ -1,6 +1,8 @@
 // A fresh record of any limits.
 //
 // Rests on errno, mask, rules, layout, store and drivers.
+#![tactic(auto)]
+
 ghost use Rattle.std.specs.Prelude.{◌≡◌};
 ghost use Rattle.rules.specs.State.{slots};
 ghost use Rattle.layout.specs.Layout.{fresh_words, no_configuration, clear_slots};

@@ -1,6 +1,8 @@
 // What a caller in C is shown: answers with what they leave behind references. A refused call leaves what was there.
 //
 // Rests on rules, layout, sweep and listing.
+#![tactic(auto)]
+
 ghost use Rattle.std.specs.Prelude.{◌≡◌, cond, eqb};
 ghost use Rattle.layout.specs.Lent.{state};
 ghost use Rattle.sweep.specs.Sweeps.{Sweeps};

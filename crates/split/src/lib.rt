@@ -1,6 +1,8 @@
 // Cuts bytes at a separator: the lines of an input, the words of a line.
 //
 // Rests on nothing.
+#![tactic(auto)]
+
 ghost use Rattle.std.specs.Prelude.{◌≡◌, ◌||◌};
 ghost use Rattle.split.specs.Cut.{holds, end_from, piece_from};
 

@@ -1,6 +1,8 @@
 // Writes the words of the record that the caller lends. `record` reads them.
 //
 // Rests on mask, rules and layout.
+#![tactic(auto)]
+
 ghost use Rattle.std.specs.Prelude.{◌≡◌, ◌+◌, ◌<◌, cond, get_or};
 ghost use Rattle.mask.specs.Bits.{bits};
 ghost use Rattle.layout.specs.Layout.{word_count, apmask_at, aqmask_at};

@@ -1,6 +1,8 @@
 // Sweeps: moves one after another over all queues, as many as a budget allows.
 //
 // Rests on mask, rules, layout, drivers, targetrow, bind and due.
+#![tactic(auto)]
+
 ghost use Rattle.std.specs.Prelude.{◌≡◌, ◌≤◌};
 ghost use Rattle.rules.specs.State.{apqn};
 ghost use Rattle.sweep.specs.Sweeps.{moves_bytes, finished_bytes, RowSweeps, Sweeps};

@@ -1,6 +1,8 @@
 // Where a queue belongs: the driver that it should have.
 //
 // Rests on mask, rules, product, products, layout and record.
+#![tactic(auto)]
+
 ghost use Rattle.std.specs.Prelude.{◌≡◌};
 ghost use Rattle.rules.specs.Queues.{target_of};
 ghost use Rattle.rules.specs.State.{apqn};

@@ -1,6 +1,8 @@
 // The targets of an adapter's queues, found at once, for whoever goes through all queues: an adapter is asked about once, not 256 times.
 //
 // Rests on mask, masks, rules, product, products, layout and record.
+#![tactic(auto)]
+
 ghost use Rattle.std.specs.Prelude.{◌≡◌};
 ghost use Rattle.layout.specs.Lent.{host, config};
 ghost use Rattle.targetrow.specs.TargetRows.{row_target, TargetsOf};

@@ -1,5 +1,7 @@
 // Reads texts of numbers and masks, and prints what each comes to. The expected output is made by tests/textcases.py,
 // which is written from the rules (docs/RULES.md, "Text") and shares no code with the readers.
+#![tactic(auto)]
+
 use errno::Errno;
 use mask::Mask;
 use masktext::MaskRead;

@@ -1,6 +1,8 @@
 // Unbinding the queues that a new configuration takes away.
 //
 // Rests on mask, masks, rules, product, layout and drivers.
+#![tactic(auto)]
+
 ghost use Rattle.std.specs.Prelude.{◌≡◌};
 ghost use Rattle.rules.specs.State.{apqn, queues};
 ghost use Rattle.layout.specs.Layout.{unbind_one, unbind};

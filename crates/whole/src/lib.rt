@@ -1,6 +1,8 @@
 // Commands on a whole record, with ids, texts and configurations as bytes: what a caller in C asks for.
 //
 // Rests on rules, fields, layout, model, host, configure, create, devices and served.
+#![tactic(auto)]
+
 ghost use Rattle.fields.specs.Fields.{configuration_of};
 ghost use Rattle.model.specs.Steps.{create, remove, open_it, close_it, set_apmask, set_aqmask, configure};
 ghost use Rattle.served.specs.Served.{id_in, Serves};

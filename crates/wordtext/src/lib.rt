@@ -1,6 +1,8 @@
 // Reads a word of a console line: a name, a kind of number, a number of at most 255.
 //
 // Rests on errno, number and rules.
+#![tactic(auto)]
+
 ghost use Rattle.std.specs.Prelude.{◌≡◌, false};
 ghost use Rattle.errno.specs.Outcome.{granted};
 ghost use Rattle.number.specs.Text.{at_most};
