@@ -14,7 +14,7 @@ use lib.Arith.{lt-one, digits_lt, digits_div, digits_mod}
 use lib.Pow.{pow_pos}
 use lib.Bits.{bit_and, bit_or, bit_xor, or_add_and, and_le_l, and_le_r}
 use lib.Count.{ones, ones_in, ones_step}
-use borrow.Author.Rules.{rules, elem_fits_field}
+use borrow.Author.Rules.{rules, elem_Fits}
 use borrow.Author.Tests.{ltb-true, ltb-false, eqb-true, eqb-false, eq-eqb, ne_eqb, lt-ltb, le-ltb}
 use mir.Val.{Val}
 use mir.Syntax.{w64}
@@ -315,7 +315,7 @@ numbers_of_bits {w} {n} {xs} p h =
 
 -- a mask has four words of 64 bits, by what owning it tells: `c.good` of a parameter, `c.CALL.ok` of a result
 pub mask_words_lem : (m : Mask) {vs : List Val} → Is the_row m vs → Sized 64 4 m.words
-mask_words_lem m h = record { long = search rules; small = λ k. (elem_fits_field w64 w64 m.words h.1.1.0.0 k h.1.1.0.1.1 tt).fits }
+mask_words_lem m h = record { long = search rules; small = λ k. (elem_Fits w64 w64 m.words h.1.1.0.0 k h.1.1.0.1.1 tt).fits }
 
 -- what holds at 0, 1, 2 and 3 holds below 4
 pub below_four : (P : ℕ → Type 0) → P 0 → P 1 → P 2 → P 3 → (q : ℕ) → q < 4 → P q

@@ -19,7 +19,7 @@ returns c =
     let a = s.args in
     let ws = a.words.now in
     let m = c.before.without.result in
-    let words = mask_words_lem m c.before.without.type-inv in
+    let words = mask_words_lem m c.before.without.type_inv in
     let made = c.before.without.ensures ∙ ap (excluded a.number) c.before.before.before.numbers.ensures in
     let held = c.before.before.before.before.before.hold-words.ensures in
     done_carried (unassign_at a.kind a.number a.slot) (unassigned_at a.kind a.slot a.number) ws

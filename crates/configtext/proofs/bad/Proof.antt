@@ -15,9 +15,9 @@ returns c =
       is = refl;
       empty = λ e i.
           record {
-            adapters = mask_none c.before.before.empty.result (mask_words_lem c.before.before.empty.result c.before.before.empty.type-inv) c.before.before.empty.ensures i;
-            domains = mask_none c.before.empty2.result (mask_words_lem c.before.empty2.result c.before.empty2.type-inv) c.before.empty2.ensures i;
-            controls = mask_none c.empty3.result (mask_words_lem c.empty3.result c.empty3.type-inv) c.empty3.ensures i;
+            adapters = mask_none c.before.before.empty.result (mask_words_lem c.before.before.empty.result c.before.before.empty.type_inv) c.before.before.empty.ensures i;
+            domains = mask_none c.before.empty2.result (mask_words_lem c.before.empty2.result c.before.empty2.type_inv) c.before.empty2.ensures i;
+            controls = mask_none c.empty3.result (mask_words_lem c.empty3.result c.empty3.type_inv) c.empty3.ensures i;
             types = c.before.before.before.no-types.ensures i;
           };
     }

@@ -41,7 +41,7 @@ returns-5 c =
     (told_good c.before.before.before.before.before.before.before.before.before.before.before.before.hex-mask2.result.good (bits c.before.before.before.before.before.before.before.before.before.before.before.before.hex-mask2.result.mask) c.before.before.before.before.before.before.before.before.before.before.before.before.hex-mask2.ensures (not-false _ c.before.before.before.before.before.before.before.before.before.before.if2.false))
     (told_good c.before.before.before.before.before.before.before.before.before.hex-mask3.result.good (bits c.before.before.before.before.before.before.before.before.before.hex-mask3.result.mask) c.before.before.before.before.before.before.before.before.before.hex-mask3.ensures (not-false _ c.before.before.before.before.before.before.before.if3.false))
     (told_good c.before.before.before.before.before.before.types.result.good c.before.before.before.before.before.before.types.result.types c.before.before.before.before.before.before.types.ensures.0 (not-false _ c.before.before.before.before.if4.false))
-    (mask_words_lem _ c.before.before.before.before.before.before.before.before.before.before.before.before.before.before.before.hex-mask.type-inv.1.1.1.0) (mask_words_lem _ c.before.before.before.before.before.before.before.before.before.before.before.before.hex-mask2.type-inv.1.1.1.0) (mask_words_lem _ c.before.before.before.before.before.before.before.before.before.hex-mask3.type-inv.1.1.1.0)
+    (mask_words_lem _ c.before.before.before.before.before.before.before.before.before.before.before.before.before.before.before.hex-mask.type_inv.1.1.1.0) (mask_words_lem _ c.before.before.before.before.before.before.before.before.before.before.before.before.hex-mask2.type_inv.1.1.1.0) (mask_words_lem _ c.before.before.before.before.before.before.before.before.before.hex-mask3.type_inv.1.1.1.0)
 
 pub four_spec : {M : Type 1} → statement M
 four_spec =

@@ -25,7 +25,7 @@ returns-2 c =
     let away = gone_away a.configuration a.words.now was.configured.result was.configured.ensures.members in
     config_done a.configuration a.words.now a.drivers.now (sym test.if1.false ∙ test.before.beyond.ensures) c.put-configuration.ensures
     (c.before.before.unbind.ensures ∙ ap (λ (u : Bits). unbind a.drivers.now u queues) away)
-    start.well-formed.1.1.0
+    start.well_formed.1.1.0
     words.hold-words.ensures.long
     drivers.hold-drivers.ensures.long
 

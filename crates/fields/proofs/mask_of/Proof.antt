@@ -33,7 +33,7 @@ returns : tie.Need-returns invariant-loop decreases-loop
 returns c =
     let l = c.before.before.loop in
     let s = c.before.before.before.before in
-    same_mask s.args.bytes.now l.out s.args.at c.from_bytes.result (mask_words_lem c.from_bytes.result c.from_bytes.type-inv) c.from_bytes.ensures (λ j h. l.invariant.2 j (omega arith))
+    same_mask s.args.bytes.now l.out s.args.at c.from_bytes.result (mask_words_lem c.from_bytes.result c.from_bytes.type_inv) c.from_bytes.ensures (λ j h. l.invariant.2 j (omega arith))
 
 pub mask_of_spec : {M : Type 1} → statement M
 mask_of_spec =

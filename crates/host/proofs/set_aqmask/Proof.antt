@@ -13,7 +13,7 @@ returns c =
     let held = was.before.before in
     let a = held.before.before.before.args in
     set_aqmask_lem a.text.now a.words.now held.hold-words.ensures was.aqmask.result other.apmask.result got.parse.result got.parse.ensures.0
-    got.parse.type-inv _ _ was.aqmask.ensures other.apmask.ensures c.set.ensures.0 c.set.ensures.1
+    got.parse.type_inv _ _ was.aqmask.ensures other.apmask.ensures c.set.ensures.0 c.set.ensures.1
 
 pub set_aqmask_spec : {M : Type 1} → statement M
 set_aqmask_spec =

@@ -21,7 +21,7 @@ returns c =
     fun_ext
     (each_bits 64 4 ws (bit_at 8 b) (omega arith) refl
     (λ q j l h. ap (λ (x : ℕ). digit x (63 - j)) (words q l) ∙ number_digit 64 (bit_at 8 b) (q * 64) j h)
-    (λ i l. past_end {w = 8} {n = 32} i (omega arith) (bytes_words b s.well-formed.0) l))
+    (λ i l. past_end {w = 8} {n = 32} i (omega arith) (bytes_words b s.well_formed.0) l))
 
 pub from_bytes_spec : {M : Type 1} → statement M
 from_bytes_spec =

@@ -23,7 +23,7 @@ returns c =
     fun_ext
     (λ j. ap (λ (p : ℕ). bit_at 64 (set x (g % 64 / 16) (bit_or (get_or x (g % 64 / 16) 0) p)) j)
     (shl_exact 4 (60 - 4 * (g % 16)) 64 (omega arith) (omega arith) ∙ ap (λ (k : ℕ). v * 2 ^ (60 - 4 * k)) place)
-    ∙ group_set (g % 64) v j (omega arith) x (omega (arith, (mask_words_lem c.before.args.m c.before.well-formed.0).long)))
+    ∙ group_set (g % 64) v j (omega arith) x (omega (arith, (mask_words_lem c.before.args.m c.before.well_formed.0).long)))
 
 pub with_nibble_spec : {M : Type 1} → statement M
 with_nibble_spec =

@@ -16,4 +16,4 @@ and_spec =
     tie.close
     (tie.spec (λ c. search rules) (λ c. search rules) (λ c. search rules) (λ c. search rules) (λ c. search rules) (λ c. search rules) (λ c. search rules)
     (λ c. search rules)
-    (λ c. mask_op c.before.before.args.one c.before.before.args.other bit_and ◌&&◌ digit_and refl c.before.before.well-formed.0 c.before.before.well-formed.1.0))
+    (λ c. mask_op c.before.before.args.one c.before.before.args.other bit_and ◌&&◌ digit_and refl c.before.before.well_formed.0 c.before.before.well_formed.1.0))

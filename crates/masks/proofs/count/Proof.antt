@@ -14,12 +14,12 @@ use Rattle.masks.proofs.count.Tie as tie
 
 -- a word has at most 64 ones
 tops : (c : tie.After-x) (q : ℕ) → ones (get_or c.before.args.mask.words q 0) ≤ 64
-tops c q = ones-le 64 (get_or c.before.args.mask.words q 0) ((mask_words_lem c.before.args.mask c.before.well-formed.0).small q)
+tops c q = ones-le 64 (get_or c.before.args.mask.words q 0) ((mask_words_lem c.before.args.mask c.before.well_formed.0).small q)
 
 returns : tie.Need-returns
 returns c =
     let x = c.before.args.mask.words in
-    let h : Sized 64 4 x = mask_words_lem c.before.args.mask c.before.well-formed.0 in
+    let h : Sized 64 4 x = mask_words_lem c.before.args.mask c.before.well_formed.0 in
     let h₀ = sym (zero-add (ones (get_or x 0 0))) ∙ count_next h 0 0 (omega (arith, count_le 0 (bits c.before.args.mask))) in
     count_next h 3 _ (count_next h 2 _ (count_next h 1 _ h₀))
 

@@ -14,7 +14,7 @@ returns : tie.Need-returns
 returns c =
     let start = c.before.before in
     mask_op start.args.one start.args.other (λ (x y : ℕ). bit_xor x (bit_and x y)) (λ (x y : Bool). x && not y) digit_clear refl
-    start.well-formed.0 start.well-formed.1.0
+    start.well_formed.0 start.well_formed.1.0
 
 pub minus_spec : {M : Type 1} → statement M
 minus_spec =

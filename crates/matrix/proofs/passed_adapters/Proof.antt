@@ -47,7 +47,7 @@ returns c =
     let last : l.n ≡ 256 = omega arith in
     fun_ext
     (λ j. l.invariant.1 j ∙ ap (λ (n : ℕ). bits a.adapters j && not (ltb j n && held j)) last
-    ∙ all_looked j (bits a.adapters j) (held j) (λ h. past_end j (omega arith) (mask_words_lem a.adapters c.before.before.well-formed.1.0) h))
+    ∙ all_looked j (bits a.adapters j) (held j) (λ h. past_end j (omega arith) (mask_words_lem a.adapters c.before.before.well_formed.1.0) h))
 
 pub passed_adapters_spec : {M : Type 1} → statement M
 passed_adapters_spec =

@@ -10,4 +10,4 @@ pub without_spec : {M : Type 1} → statement M
 without_spec =
     tie.close
     (tie.spec (λ c. search rules) (λ c. search rules) (λ c. search rules) (λ c. search rules) (λ c. search rules) (λ c. search rules) (λ c. search rules)
-    (λ c. search rules) (λ c. search rules) (λ c. mask_clear c.before.args.self c.before.well-formed.0 c.before.args.i (omega arith)))
+    (λ c. search rules) (λ c. search rules) (λ c. mask_clear c.before.args.self c.before.well_formed.0 c.before.args.i (omega arith)))

@@ -1,0 +1,16 @@
+-- `holds` meets its contract. The invariant: the byte occurs where it was found, or among the bytes from i on.
+use Prim.Native.Nat.{◌-◌}
+use native.Mathlib.Omega.{arith}
+use mathlib.Core.Bool.{◌||◌}
+use mathlib.Core.Path.{◌≡◌, refl, sym, ◌∙◌}
+use lib.ListN.{length, drop}
+use Rattle.split.specs.Cut.{holds}
+use Rattle.split.proofs.Laws.{holds_turn, holds_end}
+use borrow.Author.Rules.{rules}
+use Rattle.split.proofs.holds.Given as goal
+
+abbrev pub invariant-loop-i : goal.invariant-loop-i
+invariant-loop-i l = holds l.c l.s ≡ (l.found || holds l.c (drop l.i l.s))
+
+abbrev pub decreases-loop-i : goal.decreases-loop-i
+decreases-loop-i l = length l.s - l.i
