@@ -107,7 +107,8 @@ class Function:
         self.crate, self.folder, self.names = crate, folder, names
         self.path = folder[len("proofs/") :].replace("/", ".")
         self.said = []
-        self.vars = set(names.get("args") or [])
+        self.vars = set()
+        self.moved = [(a.replace(" ", ""), b.replace(" ", "")) for a, b in names.get("args") or []]
         for (_, vs) in names["loops"]:
             self.vars.update(vs)
         self.labels = {}
@@ -147,6 +148,8 @@ class Function:
         for _ in range(3):
             text = re.sub(rf"(BEFORE)\.({W})", one, text)
         text = text.replace(".BEFORE.", ".").replace(".BEFORE", "")
+        for old, new in self.moved:
+            text = re.sub(rf"{re.escape(old)}(?![\w-])", new, text)
         text = text.replace(".well-formed", ".well_formed").replace(".type-inv", ".type_inv")
         return text
 

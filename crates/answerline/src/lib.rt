@@ -12,7 +12,7 @@ use errno::{Ascii, Errno};
 use rules::Moved;
 
 // What a line is answered.
-#[derive(Drop)]
+#[derive(Clone, Copy)]
 pub enum Said {
     Done,
     Refused(Errno),

@@ -14,7 +14,7 @@ use layout::{SLOTS, Words};
 use rules::{Answer, Id, Kind};
 
 // Where a number goes: a slot and the number, which is in range, or the refusal.
-#[derive(Drop)]
+#[derive(Clone, Copy)]
 enum Located {
     At(usize, u8),
     Nowhere(Errno),

@@ -15,7 +15,7 @@ use masktext::MaskRead;
 use rules::Configuration;
 
 // What reading a configuration finds. Beside bad text stands an empty one.
-#[derive(Drop)]
+#[derive(Clone, Copy)]
 pub struct ConfigRead {
     pub good: bool,
     pub configuration: Configuration,

@@ -10,7 +10,7 @@ ghost use Rattle.decimal.specs.Decimal.{decimal, most};
 pub const DIGITS: usize = 10;
 
 // The digits of a number stand at the end: from an index on; before them zeros.
-#[derive(Drop)]
+#[derive(Clone, Copy)]
 pub struct Decimal {
     pub bytes: [u8; DIGITS],
     pub from: usize,

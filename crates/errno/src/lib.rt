@@ -7,7 +7,7 @@ ghost use Rattle.std.specs.Prelude.{◌≡◌, length};
 ghost use Rattle.errno.specs.Errno.{number_of, name_of, padded, row_of};
 
 // Why a request is refused.
-#[derive(Drop)]
+#[derive(Clone, Copy)]
 pub enum Errno {
     Enoent,
     Ebusy,
@@ -23,14 +23,14 @@ pub enum Errno {
 pub const NAME_BYTES: usize = 14;
 
 // A name as ASCII bytes: the first len of them, then zeros.
-#[derive(Drop)]
+#[derive(Clone, Copy)]
 pub struct Ascii {
     pub bytes: [u8; NAME_BYTES],
     pub len: usize,
 }
 
 // A value and its name.
-#[derive(Drop)]
+#[derive(Clone, Copy)]
 struct Entry {
     number: u8,
     len: usize,

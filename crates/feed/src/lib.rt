@@ -21,7 +21,7 @@ pub const KEPT: usize = linetext::LINE_BYTES + 1;
 const HIGHEST: u64 = 255;
 
 // How much of a part was taken, how much output was written, and how many bytes are held.
-#[derive(Drop)]
+#[derive(Clone, Copy)]
 pub struct Fed {
     pub taken: usize,
     pub written: usize,
@@ -29,7 +29,7 @@ pub struct Fed {
 }
 
 // Where the lines of a part end, and where their answers do.
-#[derive(Drop)]
+#[derive(Clone, Copy)]
 struct Reached {
     at: usize,
     written: usize,

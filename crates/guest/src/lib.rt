@@ -18,7 +18,7 @@ use product::Product;
 use rules::{Answer, Id, Masks, Matrix};
 
 // The masks of a device, or a refusal and empty masks where no device has the id.
-#[derive(Drop)]
+#[derive(Clone, Copy)]
 pub struct Shown {
     pub answer: Answer,
     pub masks: Masks,

@@ -10,14 +10,14 @@ use fields::ID_BYTES;
 use rules::Id;
 
 // What reading an id finds: the id, or zeros where the text is bad.
-#[derive(Drop)]
+#[derive(Clone, Copy)]
 pub struct IdRead {
     pub good: bool,
     pub id: Id,
 }
 
 // What reading hardware types finds: the types, or zeros where the text is bad.
-#[derive(Drop)]
+#[derive(Clone, Copy)]
 pub struct TypesRead {
     pub good: bool,
     pub types: [u8; 256],

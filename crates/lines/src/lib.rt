@@ -17,7 +17,7 @@ use rules::QUEUES;
 pub const LINE: usize = 8;
 
 // How many bytes were written, and the next place.
-#[derive(Drop)]
+#[derive(Clone, Copy)]
 pub struct Filled {
     pub written: usize,
     pub next: usize,

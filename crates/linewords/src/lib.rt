@@ -15,7 +15,7 @@ use rules::{Id, Kind};
 
 // What a line asks for: 0 to 8 is a command by its operation (crate encoding), 9 a move, 10 a sweep, any other bad text. Its kind, id,
 // numbers and the index of its last text count where the request has such (`asked`); what the others hold is not promised.
-#[derive(Drop)]
+#[derive(Clone, Copy)]
 pub struct Parsed {
     pub op: u8,
     pub kind: Kind,

@@ -19,7 +19,7 @@ use product::Product;
 use rules::{Answer, Id, Masks, Matrix};
 
 // What a listing answers: bytes written and the next place. A refused one wrote nothing and stays at its place.
-#[derive(Drop)]
+#[derive(Clone, Copy)]
 pub struct Listed {
     pub answer: Answer,
     pub written: usize,

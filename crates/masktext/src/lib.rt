@@ -13,7 +13,7 @@ ghost use Rattle.masktext.specs.Text as Text;
 use mask::Mask;
 
 // What reading a text finds: the new mask, or the old one where the text is bad.
-#[derive(Drop)]
+#[derive(Clone, Copy)]
 pub struct MaskRead {
     pub good: bool,
     pub mask: Mask,

@@ -10,7 +10,7 @@ ghost use Rattle.digits.specs.Digits.{digit_of};
 ghost use Rattle.number.specs.Text.{outcome, digits, at_most, number_rule, number_text};
 
 // What reading a text finds.
-#[derive(Drop)]
+#[derive(Clone, Copy)]
 pub enum Number {
     Value(u16),
     Bad,

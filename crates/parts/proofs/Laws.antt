@@ -5,20 +5,20 @@ use native.Mathlib.Omega.{arith}
 use mathlib.Core.Path.{◌≡◌, sym, ap, ◌∙◌}
 use mathlib.Core.List.{List}
 use lib.ListN.{length, take, drop, drop_of_length-le}
-use lib.Seq.{take-length, drop-drop}
-use Rattle.bytes.specs.Bytes.{index_of, slice}
+use lib.Seq.{drop-drop}
+use Rattle.split.specs.Cut.{first_of, end_from}
 use Rattle.parts.specs.Parts.{past, part}
 
-module _ (s : List ℕ) (c from : ℕ) {e : ℕ} (f : e ≡ from + index_of c (slice from (length s) s)) where
-  found : e ≡ from + index_of c (drop from s)
-  unfolding slice
-  found = f ∙ ap (λ (l : List ℕ). from + index_of c (drop from l)) (take-length s)
+module _ (s : List ℕ) (c from : ℕ) {e : ℕ} (f : e ≡ end_from c from s) where
+  found : e ≡ from + first_of c (drop from s)
+  unfolding end_from
+  found = f
 
   -- what follows the separator at e, or nothing where the text ends at e
   pub past_found : drop (e + 1) s ≡ past c (drop from s)
   past_found =
-      let n : from + (index_of c (drop from s) + 1) ≡ e + 1 = omega (arith, found) in
-      sym (drop-drop (index_of c (drop from s) + 1) from s ∙ ap (λ (n : ℕ). drop n s) n)
+      let n : from + (first_of c (drop from s) + 1) ≡ e + 1 = omega (arith, found) in
+      sym (drop-drop (first_of c (drop from s) + 1) from s ∙ ap (λ (n : ℕ). drop n s) n)
 
   pub past_none : length s ≤ e → drop e s ≡ past c (drop from s)
   past_none h =
@@ -28,7 +28,7 @@ module _ (s : List ℕ) (c from : ℕ) {e : ℕ} (f : e ≡ from + index_of c (s
   pub part_found : take (e - from) (drop from s) ≡ part c 0 (drop from s)
   unfolding part
   part_found =
-      let n : e - from ≡ index_of c (drop from s) = omega (arith, found) in
+      let n : e - from ≡ first_of c (drop from s) = omega (arith, found) in
       ap (λ (n : ℕ). take n (drop from s)) n
 
 -- one part less to pass over

@@ -1,6 +1,6 @@
 // The parts of a text between separators: the rows of a program's table, and the words of a row.
 //
-// Rests on the kit's bytes.
+// Rests on split.
 #![tactic(auto)]
 
 ghost use Rattle.std.specs.Prelude.{◌≡◌, ◌≤◌, length, drop};
@@ -16,7 +16,7 @@ pub fn part(s: &[u8], c: u8, k: usize) -> &[u8]
         start = next(s, start, c);
         left -= 1;
     }
-    &s[start..bytes::scan::find(s, start, s.len(), c)]
+    &s[start..split::end(s, start, c)]
 }
 
 // The index past the first separator from an index on.
@@ -24,6 +24,6 @@ fn next(s: &[u8], from: usize, c: u8) -> usize
     requires { from ≤ length s.now }
     ensures { (result ≤ length s.now) × (drop result s.now ≡ past c (drop from s.now)) }
 {
-    let e = bytes::scan::find(s, from, s.len(), c);
+    let e = split::end(s, from, c);
     if e < s.len() { e + 1 } else { e }
 }

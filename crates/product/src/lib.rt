@@ -11,7 +11,7 @@ ghost use Rattle.product.specs.Meet.{queues_of, ProductOf, Meet, Row};
 use mask::{Apid, Apqi, Mask};
 use rules::Masks;
 
-#[derive(Drop)]
+#[derive(Clone, Copy)]
 pub struct Product {
     pub adapters: Mask,
     pub domains: Mask,

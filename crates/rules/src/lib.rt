@@ -14,7 +14,7 @@ use mask::Mask;
 pub const QUEUES: usize = 65536;
 
 // Who drives a queue: nobody, the host's own driver, or the driver that passes it through to guests.
-#[derive(Drop)]
+#[derive(Clone, Copy)]
 pub enum Driver {
     Unbound,
     Host,
@@ -22,7 +22,7 @@ pub enum Driver {
 }
 
 // What a move of one queue did.
-#[derive(Drop)]
+#[derive(Clone, Copy)]
 pub enum Moved {
     Idle,
     Released,
@@ -31,7 +31,7 @@ pub enum Moved {
 }
 
 // The three kinds of number that are assigned to a mediated device.
-#[derive(Drop)]
+#[derive(Clone, Copy)]
 pub enum Kind {
     Adapter,
     Domain,
@@ -39,28 +39,28 @@ pub enum Kind {
 }
 
 // A device's two matrices: what is assigned to it, and what its guest gets.
-#[derive(Drop)]
+#[derive(Clone, Copy)]
 pub enum Matrix {
     Assigned,
     Guest,
 }
 
 // What a command answers.
-#[derive(Drop)]
+#[derive(Clone, Copy)]
 pub enum Answer {
     Done,
     Refused(Errno),
 }
 
 // The 16 bytes of a mediated device's id, as two big-endian numbers.
-#[derive(Drop)]
+#[derive(Clone, Copy)]
 pub struct Id {
     pub hi: u64,
     pub lo: u64,
 }
 
 // What the partition is given: three masks, and for each adapter its hardware type.
-#[derive(Drop)]
+#[derive(Clone, Copy)]
 pub struct Configuration {
     pub adapters: Mask,
     pub domains: Mask,
@@ -69,7 +69,7 @@ pub struct Configuration {
 }
 
 // Adapters, domains and control domains of a matrix.
-#[derive(Drop)]
+#[derive(Clone, Copy)]
 pub struct Masks {
     pub adapters: Mask,
     pub domains: Mask,

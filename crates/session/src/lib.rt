@@ -19,7 +19,7 @@ pub const PART: usize = 4096;
 pub const OUT: usize = PART * LONGEST;
 
 // What a turn left: how many bytes are held, whether the input has ended, and whether that was for a write that failed.
-#[derive(Drop)]
+#[derive(Clone, Copy)]
 struct Went {
     held: usize,
     ended: bool,

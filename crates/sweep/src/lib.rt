@@ -16,14 +16,14 @@ use targetrow::TargetRow;
 pub const MOST_MOVES: u32 = 131072;
 
 // What a sweep reports: the moves it made, and whether any remain.
-#[derive(Drop)]
+#[derive(Clone, Copy)]
 pub struct Swept {
     pub used: u32,
     pub more: bool,
 }
 
 // What a sweep of one adapter's queues leaves: moves to make, or none and queues that still need some.
-#[derive(Drop)]
+#[derive(Clone, Copy)]
 struct Rest {
     left: u32,
     short: bool,

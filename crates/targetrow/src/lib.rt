@@ -12,7 +12,7 @@ use mask::{Apid, Apqi, Mask};
 use rules::Driver;
 
 // The domains of those queues whose target is the host, and of those whose target is passthrough.
-#[derive(Drop)]
+#[derive(Clone, Copy)]
 pub struct TargetRow {
     host: Mask,
     passthrough: Mask,

@@ -13,14 +13,14 @@ use number::Number;
 use rules::Kind;
 
 // What reading a kind finds; beside bad text stands a control domain.
-#[derive(Drop)]
+#[derive(Clone, Copy)]
 pub struct KindRead {
     pub good: bool,
     pub kind: Kind,
 }
 
 // What reading a number finds; beside bad text stands 0.
-#[derive(Drop)]
+#[derive(Clone, Copy)]
 pub struct ByteRead {
     pub good: bool,
     pub value: u8,
