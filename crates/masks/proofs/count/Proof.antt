@@ -13,7 +13,7 @@ use Rattle.masks.proofs.count.Statement.{statement}
 use Rattle.masks.proofs.count.Tie as tie
 
 -- a word has at most 64 ones
-tops : (c : tie.After-x) (q : ℕ) → ones (get_or c.before.args.mask.words q 0) ≤ 64
+tops : (c : tie.After-x-1) (q : ℕ) → ones (get_or c.before.args.mask.words q 0) ≤ 64
 tops c q = ones-le 64 (get_or c.before.args.mask.words q 0) ((mask_words_lem c.before.args.mask c.before.well_formed.0).small q)
 
 returns : tie.Need-returns
