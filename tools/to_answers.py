@@ -123,6 +123,7 @@ class Function:
             if old != new:
                 self.labels[norm(old)] = new
                 self.labels[norm(old) + "_test"] = new + "-test"
+        self.names_now = {p[2][1] for p in names["places"]}
         self.states = {}
         for p, new in zip(names["places"], names["places_by_name"]):
             self.states[norm(p[0])] = new
@@ -136,6 +137,8 @@ class Function:
         def one(m):
             pre, label = m.group(1), m.group(2)
             new = self.labels.get(norm(label))
+            if not new and label != norm(label) and norm(label) in self.names_now:
+                return f"{pre}.{norm(label)}"
             if not new:
                 return m.group(0)
             if pre in ("args", "new", "initial", "fn", "auto", "ranges", "type_inv"):
