@@ -2,7 +2,7 @@
 -- Assumes nothing.
 use Rattle.std.specs.Prelude.{ℕ, ◌+◌, Bool, cond, List, [], ◌∷◌, ◌++◌, ◌≡◌, eqb, leb, length}
 use Rattle.std.proofs.Math.Seq.{paste}
-use Rattle.std.specs.Borrow.{Bor}
+use Rattle.std.specs.Borrow.{MutBor}
 use Rattle.errno.specs.declared.Errno.{Errno}
 use Rattle.errno.specs.Errno.{number_of, name_of, cases}
 use Rattle.errno.specs.Ascii.{ascii}
@@ -54,5 +54,5 @@ pub record Put (line : List ℕ) (at : ℕ) (before after : List ℕ) (r : ℕ) 
   pub next : r ≡ cond (room before at) (at + length line) at
 
 -- the same of lent memory at entry and at exit
-abbrev pub Puts : List ℕ → ℕ → Bor (List ℕ) → Bor (List ℕ) → ℕ → Type 0
+abbrev pub Puts : List ℕ → ℕ → MutBor (List ℕ) → MutBor (List ℕ) → ℕ → Type 0
 Puts line at entry exit r = Put line at entry.now exit.now r

@@ -11,7 +11,7 @@ use Rattle.rules.specs.declared.Answer.{Answer}
 use Rattle.rules.specs.Commands.{slot_of, assign, unassign}
 use Rattle.rules.specs.Refusals.{RefusedExactly}
 use Rattle.layout.specs.Layout.{limits_in, host_in, device_in}
-use Rattle.layout.specs.Lent.{Lent}
+use Rattle.layout.specs.Lent.{Lent, LentMut}
 use Rattle.layout.specs.Carried.{CarriedWords, Obeys}
 use Rattle.assignnumber.specs.Numbers.{assigned_at, unassigned_at}
 
@@ -38,9 +38,9 @@ pub record Assigning (k : Kind) (i : Id) (text ws vs : List ℕ) (r : Answer) : 
   pub exactly : RefusedExactly k i text (limits_in ws) (host_in ws) (device_in ws) r
 
 -- the same of lent memory at entry and at exit
-abbrev pub Assigns : Kind → Id → Lent → Lent → Lent → Answer → Type 0
+abbrev pub Assigns : Kind → Id → Lent → LentMut → LentMut → Answer → Type 0
 Assigns k i text entry exit r = Assigning k i text.now entry.now exit.now r
 
 -- unassigning the number of a text
-abbrev pub Unassigns : Kind → Id → Lent → Lent → Lent → Answer → Type 0
+abbrev pub Unassigns : Kind → Id → Lent → LentMut → LentMut → Answer → Type 0
 Unassigns k i text entry exit r = Obeys (unassign k i text.now) (unassigned k i text.now) entry exit r

@@ -11,7 +11,7 @@ use Rattle.rules.specs.State.{slots}
 use Rattle.rules.specs.Commands.{slot_of, limit_of, numbers_of, assign_number, unassign_number}
 use Rattle.rules.specs.Refusals.{NumberRefusedExactly}
 use Rattle.layout.specs.Layout.{limits_in, host_in, device_in, put_numbers, words_of}
-use Rattle.layout.specs.Lent.{Lent}
+use Rattle.layout.specs.Lent.{Lent, LentMut}
 use Rattle.layout.specs.Carried.{CarriedWords, Obeys}
 use Rattle.assignnumber.specs.declared.Located.{Located}
 use Rattle.assignnumber.specs.declared.Located.TheVariants.{At, Nowhere}
@@ -51,9 +51,9 @@ pub record AssigningNumber (k : Kind) (i : Id) (n : ℕ) (ws vs : List ℕ) (r :
   pub exactly : NumberRefusedExactly k i n (limits_in ws) (host_in ws) (device_in ws) r
 
 -- the same of lent memory at entry and at exit
-abbrev pub AssignsNumber : Kind → Id → ℕ → Lent → Lent → Answer → Type 0
+abbrev pub AssignsNumber : Kind → Id → ℕ → LentMut → LentMut → Answer → Type 0
 AssignsNumber k i n entry exit r = AssigningNumber k i n entry.now exit.now r
 
 -- unassigning a number
-abbrev pub UnassignsNumber : Kind → Id → ℕ → Lent → Lent → Answer → Type 0
+abbrev pub UnassignsNumber : Kind → Id → ℕ → LentMut → LentMut → Answer → Type 0
 UnassignsNumber k i n entry exit r = Obeys (unassign_number k i n) (unassigned_from k i n) entry exit r

@@ -7,7 +7,7 @@ use Rattle.rules.specs.declared.Moved.{Moved}
 use Rattle.rules.specs.declared.Moved.TheVariants.{Idle, Released, BoundHost, BoundPassthrough}
 use Rattle.rules.specs.Queues.{move_answer, move}
 use Rattle.layout.specs.Layout.{state_in, byte_of}
-use Rattle.layout.specs.Lent.{Lent}
+use Rattle.layout.specs.Lent.{Lent, LentMut}
 
 -- the bytes after a move of queue n that answered m: an idle move writes nothing
 unfoldable pub bytes_after : Moved → ℕ → List ℕ → List ℕ
@@ -27,5 +27,5 @@ pub record Moving (q : ℕ) (ws qs rs : List ℕ) (r : Moved) : Type 0 where
   pub drivers : rs ≡ move_bytes ws q qs
 
 -- the same of lent memory, at entry and at exit
-abbrev pub Moves : ℕ → Lent → Lent → Lent → Moved → Type 0
+abbrev pub Moves : ℕ → Lent → LentMut → LentMut → Moved → Type 0
 Moves q words drivers after r = Moving q words.now drivers.now after.now r

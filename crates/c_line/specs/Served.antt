@@ -1,7 +1,7 @@
 -- What a caller in C is promised of a console line.
 -- Assumes nothing.
 use Rattle.std.specs.Prelude.{ℕ, ◌<◌, ◌≤◌, List, ◌++◌, ◌≡◌, length, drop}
-use Rattle.std.specs.Borrow.{Bor}
+use Rattle.std.specs.Borrow.{MutBor}
 use denote.Triple.Both.{Both}
 use Rattle.errno.specs.Errno.{number_of}
 use Rattle.errno.specs.declared.Errno.TheVariants.{Enospc}
@@ -24,6 +24,6 @@ pub record LineServed (line : List ℕ) (m n : Memory) (before after : List ℕ)
   pub done : longest ≤ length before → Answered (line_request line) m n (answer_line line (read m))
 
 -- the same of lent memory
-abbrev pub LineServes : Lent → Lending → Lending → Lending → Both (Bor ℕ) (Bor ℕ) → ℕ → Type 0
+abbrev pub LineServes : Lent → Lending → Lending → Lending → Both (MutBor ℕ) (MutBor ℕ) → ℕ → Type 0
 LineServes line words drivers out written r =
     LineServed line.now (entering words drivers) (leaving words drivers) out.entry.now out.exit.now written.entry.now written.exit.now r

@@ -2,7 +2,7 @@
 -- The rules: RULES.md, "Listing".
 -- Assumes nothing.
 use Rattle.std.specs.Prelude.{ℕ, ◌/◌, ◌%◌, cond, List, [], ◌∷◌, ◌++◌, ◌≡◌, length, drop, ltb}
-use Rattle.std.specs.Borrow.{Bor}
+use Rattle.std.specs.Borrow.{MutBor}
 use Rattle.errno.specs.Errno.{number_of}
 use Rattle.errno.specs.declared.Errno.TheVariants.{Enoent}
 use Rattle.digits.specs.Digits.{hex_digit}
@@ -10,7 +10,7 @@ use Rattle.mask.specs.Bits.{Bits}
 use Rattle.rules.specs.declared.Id.{Id}
 use Rattle.rules.specs.State.{Devices, slots}
 use Rattle.rules.specs.Commands.{slot_of}
-use Rattle.layout.specs.Lent.{Lent, device_with}
+use Rattle.layout.specs.Lent.{device_with, LentMut}
 use Rattle.lines.specs.Lines.{set_from}
 
 -- a domain's line: dddd and a newline
@@ -34,5 +34,5 @@ pub record ControlsLeft (vs : Devices) (i : Id) (before after : List ℕ) (writt
   pub refused : (r ≡ 0 → ⊥) → (after ≡ before) × (written' ≡ written)
 
 -- the same of lent memory at entry and at exit
-abbrev pub ControlsShown : Devices → Id → Lent → Lent → Bor ℕ → Bor ℕ → ℕ → Type 0
+abbrev pub ControlsShown : Devices → Id → LentMut → LentMut → MutBor ℕ → MutBor ℕ → ℕ → Type 0
 ControlsShown vs i before after written written' r = ControlsLeft vs i before.now after.now written.now written'.now r

@@ -7,7 +7,7 @@ use Rattle.rules.specs.declared.Answer.{Answer}
 use Rattle.rules.specs.State.{State}
 use Rattle.rules.specs.Commands.{answered, errno_of, state_after}
 use Rattle.layout.specs.Layout.{state_in}
-use Rattle.layout.specs.Lent.{Lent}
+use Rattle.layout.specs.Lent.{LentMut}
 
 -- the memory of a record: its words and its driver bytes
 pub record Memory : Type 0 where
@@ -44,10 +44,10 @@ abbrev pub CarriedWords : (State → Outcome State) → (List ℕ → List ℕ) 
 CarriedWords rule effect ws vs r = (qs : List ℕ) → Carried rule (on_words effect) (memory ws qs) (memory vs qs) r
 
 -- the same of lent memory at entry and at exit: a function that is lent the words
-abbrev pub Obeys : (State → Outcome State) → (List ℕ → List ℕ) → Lent → Lent → Answer → Type 0
+abbrev pub Obeys : (State → Outcome State) → (List ℕ → List ℕ) → LentMut → LentMut → Answer → Type 0
 Obeys rule effect entry exit r = CarriedWords rule effect entry.now exit.now r
 
 -- a function that is lent the words and the drivers
-abbrev pub ObeysBoth : (State → Outcome State) → (Memory → Memory) → Lent → Lent → Lent → Lent → Answer → Type 0
+abbrev pub ObeysBoth : (State → Outcome State) → (Memory → Memory) → LentMut → LentMut → LentMut → LentMut → Answer → Type 0
 ObeysBoth rule effect words words' drivers drivers' r =
     Carried rule effect (memory words.now drivers.now) (memory words'.now drivers'.now) r

@@ -2,7 +2,7 @@
 -- The rules: RULES.md, "Record".
 -- Assumes nothing.
 use Rattle.std.specs.Prelude.{ℕ, List}
-use Rattle.std.specs.Borrow.{Bor}
+use Rattle.std.specs.Borrow.{Bor, MutBor}
 use Rattle.rules.specs.declared.Id.{Id}
 use Rattle.rules.specs.State.{Limits, HostMasks, Config, Device, Devices, State}
 use Rattle.rules.specs.Commands.{slot_of}
@@ -11,6 +11,10 @@ use Rattle.layout.specs.Layout.{limits_in, host_in, config_in, device_in, state_
 -- lent numbers
 abbrev pub Lent : Type 0
 Lent = Bor (List ℕ)
+
+-- lent numbers that may be changed
+abbrev pub LentMut : Type 0
+LentMut = MutBor (List ℕ)
 
 -- the parts of the words
 abbrev pub limits : Lent → Limits

@@ -4,7 +4,7 @@ use Rattle.std.specs.Prelude.{ℕ, List, ◌++◌, ◌≡◌}
 use Rattle.mask.specs.Bits.{Bits, bits, numbers}
 use Rattle.rules.specs.declared.Masks.{Masks}
 use Rattle.rules.specs.Commands.{answered}
-use Rattle.layout.specs.Lent.{Lent}
+use Rattle.layout.specs.Lent.{LentMut}
 use Rattle.guest.specs.declared.Shown.{Shown}
 
 -- a mask as 32 bytes in mask order
@@ -23,5 +23,5 @@ pub record MasksLeft (promise : Shown → Type 0) (before after : List ℕ) (r :
   pub accepted : r ≡ 0 → after ≡ masks_bytes shown.masks
   pub refused : (r ≡ 0 → ⊥) → after ≡ before
 
-abbrev pub MasksShown : (Shown → Type 0) → Lent → Lent → ℕ → Type 0
+abbrev pub MasksShown : (Shown → Type 0) → LentMut → LentMut → ℕ → Type 0
 MasksShown promise entry exit r = MasksLeft promise entry.now exit.now r

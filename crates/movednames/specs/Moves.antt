@@ -2,7 +2,7 @@
 -- The rules: RULES.md, "Moves".
 -- Assumes nothing.
 use Rattle.std.specs.Prelude.{ℕ, List, ◌≡◌}
-use Rattle.std.specs.Borrow.{Bor}
+use Rattle.std.specs.Borrow.{MutBor}
 use Rattle.errno.specs.Ascii.{ascii}
 use Rattle.names.specs.Names.{NamedBy, CaseBy}
 use Rattle.rules.specs.declared.Moved.{Moved}
@@ -21,5 +21,5 @@ abbrev pub CaseOf : ℕ → Moved → Type 0
 CaseOf value r = CaseBy moved_number value r
 
 -- the word of a move's number, of lent memory at entry and at exit
-abbrev pub MovedShown : ℕ → Bor (List ℕ) → Bor (List ℕ) → ℕ → Type 0
+abbrev pub MovedShown : ℕ → MutBor (List ℕ) → MutBor (List ℕ) → ℕ → Type 0
 MovedShown value entry exit r = NamedBy moved_number moved_word value entry.now exit.now r

@@ -8,7 +8,7 @@ use Rattle.rules.specs.declared.Kind.{Kind}
 use Rattle.rules.specs.State.{State, queues}
 use Rattle.rules.specs.Queues.{moved_number, move_answer, remaining, most_moves}
 use Rattle.rules.specs.Commands.{answered, errno_of}
-use Rattle.layout.specs.Lent.{Lent}
+use Rattle.layout.specs.Lent.{Lent, LentMut}
 use Rattle.layout.specs.Carried.{Memory, memory, read, memory_after}
 use Rattle.bind.specs.Moves.{move_bytes}
 use Rattle.sweep.specs.Sweeps.{sweep_bytes}
@@ -43,7 +43,7 @@ pub record Stepped (x : Request) (m n : Memory) (r : ℕ) : Type 0 where
   pub call : (rs : List ℕ) × Call m n (steps_for x (read m)) rs
 
 -- the command of an operation is carried out, of lent memory at entry and at exit
-abbrev pub Obeyed : ℕ → Kind → Id → Lent → Lent → Lent → Lent → Lent → Answer → Type 0
+abbrev pub Obeyed : ℕ → Kind → Id → Lent → LentMut → LentMut → LentMut → LentMut → Answer → Type 0
 Obeyed op k i text words words' drivers drivers' r =
     Stepped (command (command_of op k i text.now)) (memory words.now drivers.now)
     (memory words'.now drivers'.now) (answered r)

@@ -5,7 +5,7 @@ use Rattle.std.specs.Prelude.{ℕ, List, [], ◌∷◌, ◌++◌, ◌≡◌, len
 use Rattle.rules.specs.State.{Limits, State, fresh}
 use Rattle.mask.specs.declared.Apid.{Apid}
 use Rattle.mask.specs.declared.Apqi.{Apqi}
-use Rattle.layout.specs.Lent.{Lent}
+use Rattle.layout.specs.Lent.{Lent, LentMut}
 use Rattle.layout.specs.Carried.{Memory, memory, read}
 use Rattle.setup.specs.Fresh.{fresh_memory}
 use Rattle.model.specs.Steps.{Step, after_all}
@@ -63,14 +63,14 @@ pub record Run (l : Limits) (bytes before after : List ℕ) (m : Memory) (r : �
   pub demand : Demanded l m (list_of l before bytes) (said_to l before bytes)
 
 -- the same of lent memory at entry and at exit
-abbrev pub StepsOnce : Lent → Lent → Lent → Lent → Lent → ℕ → Type 0
+abbrev pub StepsOnce : Lent → LentMut → LentMut → LentMut → LentMut → ℕ → Type 0
 StepsOnce bytes words words' drivers drivers' r =
     Stepped (request_of bytes.now) (memory words.now drivers.now) (memory words'.now drivers'.now) r
 
-abbrev pub CarriesOut : Lent → Lent → Lent → Lent → Lent → Lent → Lent → ℕ → Type 0
+abbrev pub CarriesOut : Lent → LentMut → LentMut → LentMut → LentMut → LentMut → LentMut → ℕ → Type 0
 CarriesOut steps before after words words' drivers drivers' r =
     CarriedOut steps.now before.now after.now (memory words.now drivers.now) (memory words'.now drivers'.now) r
 
-abbrev pub Runs : Apid → Apqi → Lent → Lent → Lent → Lent → Lent → ℕ → Type 0
+abbrev pub Runs : Apid → Apqi → Lent → LentMut → LentMut → LentMut → LentMut → ℕ → Type 0
 Runs a d steps before after words' drivers' r =
     Run (record { adapter = a.0; domain = d.0 }) steps.now before.now after.now (memory words'.now drivers'.now) r

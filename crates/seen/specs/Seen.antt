@@ -1,11 +1,11 @@
 -- What a call that looks at devices leaves: a record over what its references hold, then its name over lent memory.
 -- Assumes nothing.
 use Rattle.std.specs.Prelude.{ℕ, ◌≤◌, ◌<◌, true, false, List, ◌≡◌}
-use Rattle.std.specs.Borrow.{Bor}
+use Rattle.std.specs.Borrow.{MutBor}
 use Rattle.errno.specs.Errno.{number_of}
 use Rattle.errno.specs.declared.Errno.TheVariants.{Enoent}
 use Rattle.rules.specs.State.{Device, Devices, slots}
-use Rattle.layout.specs.Lent.{Lent}
+use Rattle.layout.specs.Lent.{LentMut}
 use Rattle.holder.specs.Holder.{holder_of}
 use Rattle.idbytes.specs.IdBytes.{AsBytes}
 use Rattle.shown.specs.Shown.{bit}
@@ -21,8 +21,8 @@ pub record HolderLeft (vs : Devices) (q : ℕ) (before after : List ℕ) (r : �
   pub free : slots ≤ holder_of vs q → (r ≡ number_of Enoent) × (after ≡ before)
 
 -- the same of lent memory at entry and at exit
-abbrev pub DeviceShown : Device → Lent → Lent → Bor ℕ → Bor ℕ → ℕ → Type 0
+abbrev pub DeviceShown : Device → LentMut → LentMut → MutBor ℕ → MutBor ℕ → ℕ → Type 0
 DeviceShown v before after mark mark' r = DeviceLeft v before.now after.now mark.now mark'.now r
 
-abbrev pub HolderShown : Devices → ℕ → Lent → Lent → ℕ → Type 0
+abbrev pub HolderShown : Devices → ℕ → LentMut → LentMut → ℕ → Type 0
 HolderShown vs q before after r = HolderLeft vs q before.now after.now r

@@ -10,7 +10,7 @@ use Rattle.rules.specs.Commands.{answered, unassign_number}
 use Rattle.rules.specs.Refusals.{RefusedExactly}
 use Rattle.fields.specs.Fields.{id_of}
 use Rattle.layout.specs.Layout.{limits_in, host_in, device_in}
-use Rattle.layout.specs.Lent.{Lent}
+use Rattle.layout.specs.Lent.{Lent, LentMut}
 use Rattle.layout.specs.Carried.{Memory, memory, read, CarriedWords}
 use Rattle.assignnumber.specs.Numbers.{AssigningNumber, unassigned_from}
 use Rattle.assign.specs.Numbers.{text_of}
@@ -69,7 +69,7 @@ pub record SweepServed (b : ℕ) (m n : Memory) (more r : ℕ) : Type 0 where
 
 -- what is lent to be changed, at entry and at exit
 abbrev pub Lending : Type 0
-Lending = Both Lent Lent
+Lending = Both LentMut LentMut
 
 abbrev pub entering : Lending → Lending → Memory
 entering words drivers = memory words.entry.now drivers.entry.now

@@ -2,7 +2,7 @@
 -- Each takes what the function below promises of its result.
 -- Assumes nothing.
 use Rattle.std.specs.Prelude.{ℕ, Bool, cond, ◌≡◌}
-use Rattle.std.specs.Borrow.{Bor}
+use Rattle.std.specs.Borrow.{MutBor}
 use Rattle.rules.specs.Commands.{answered}
 use Rattle.sweep.specs.declared.Swept.{Swept}
 use Rattle.listing.specs.declared.Listed.{Listed}
@@ -13,7 +13,7 @@ bit b = cond b 1 0
 
 -- a lent number
 abbrev pub LentNumber : Type 0
-LentNumber = Bor ℕ
+LentNumber = MutBor ℕ
 
 -- a sweep: r is the moves used, and 1 or 0 is left for whether any remain
 pub record SweepLeft (promise : Swept → Type 0) (more r : ℕ) : Type 0 where

@@ -7,7 +7,7 @@ use Rattle.rules.specs.State.{queues}
 use Rattle.rules.specs.Queues.{due_at, sum_from, most_moves}
 use Rattle.rules.specs.Sweeps.{Sweep}
 use Rattle.layout.specs.Layout.{state_in, byte_of}
-use Rattle.layout.specs.Lent.{Lent}
+use Rattle.layout.specs.Lent.{Lent, LentMut}
 use Rattle.bind.specs.Moves.{move_bytes}
 use Rattle.sweep.specs.declared.Rest.{Rest}
 use Rattle.sweep.specs.declared.Swept.{Swept}
@@ -39,9 +39,9 @@ pub record Sweeping (budget : ℕ) (ws qs rs : List ℕ) (r : Swept) : Type 0 wh
   pub drivers : rs ≡ sweep_bytes ws queues 0 (min budget most_moves) qs
 
 -- a sweep of an adapter's queues, of lent memory at entry and at exit
-abbrev pub RowSweeps : ℕ → ℕ → Lent → Lent → Lent → Rest → Type 0
+abbrev pub RowSweeps : ℕ → ℕ → Lent → LentMut → LentMut → Rest → Type 0
 RowSweeps b a words drivers after r = RowSweeping b a words.now drivers.now after.now r
 
 -- a sweep with a budget, of lent memory at entry and at exit
-abbrev pub Sweeps : ℕ → Lent → Lent → Lent → Swept → Type 0
+abbrev pub Sweeps : ℕ → Lent → LentMut → LentMut → Swept → Type 0
 Sweeps budget words drivers after r = Sweeping budget words.now drivers.now after.now r
