@@ -245,7 +245,7 @@ class Function:
                         if not re.match(r"^\(λ c( κs)?\. search rules\)$", rest[t]):
                             self.said.append(f"unplaced: {rest[t][:80]}")
                             pairs.setdefault(t, None)
-        answers = []
+        answers, more = [], {}
         used = set()
         for i, a in enumerate(rest):
             k = pairs.get(i)
@@ -255,9 +255,10 @@ class Function:
                 used.add(a)
                 answers.append((new, d, None))
                 continue
-            m2 = re.match(r"^\(λ c( κs)?\.\s*(.*)\)$", a, re.S)
+            m2 = re.match(r"^\(λ c((?: [^ .]+)*)\.\s*(.*)\)$", a, re.S)
             if m2:
                 b = m2.group(2)
+                more[new] = m2.group(1).replace(" κs", "")
                 if b.strip() == "search rules" and k is not None or b.strip() == "search rules":
                     continue
                 answers.append((new, None, b))
@@ -300,9 +301,9 @@ class Function:
             lines = text.split("\n")
             one = [f"pub {new} : goal.{new}"] + unfolding
             if len(lines) == 1 and len(text) < 150:
-                one.append(f"{new} c = {text}")
+                one.append(f"{new} c{more.get(new, '')} = {text}")
             else:
-                one.append(f"{new} c =")
+                one.append(f"{new} c{more.get(new, '')} =")
                 one += ["    " + l.strip() if j == 0 else "    " + l for j, l in enumerate(lines)]
             ordered.append("\n".join(one))
         module = f"Rattle.{self.crate}.proofs.{self.path}"
