@@ -3,6 +3,7 @@ use Prim.Native.Nat.{ℕ, ◌≤◌}
 use native.Mathlib.Nat.{zero-add}
 use native.Mathlib.Omega.{arith}
 use mathlib.Core.Path.{sym, ◌∙◌}
+use mathlib.Core.List.{List}
 use lib.ListN.{get_or}
 use lib.Count.{ones, ones-le}
 use borrow.Author.Rules.{rules}
@@ -11,8 +12,8 @@ use Rattle.mask.proofs.Laws.{mask_words_lem, count_next, count_le}
 use Rattle.masks.proofs.count.Goals as goal
 
 -- a word has at most 64 ones
-tops : (c : goal.After-x-1) (q : ℕ) → ones (get_or c.args.mask.words q 0) ≤ 64
-tops c q = ones-le 64 (get_or c.args.mask.words q 0) ((mask_words_lem c.args.mask c.well_formed.0).small q)
+tops : {xs : List ℕ} → Sized 64 4 xs → (q : ℕ) → ones (get_or xs q 0) ≤ 64
+tops {xs} h q = ones-le 64 (get_or xs q 0) (h.small q)
 
 pub returns : goal.returns
 returns c =
@@ -22,10 +23,16 @@ returns c =
     count_next h 3 _ (count_next h 2 _ (count_next h 1 _ h₀))
 
 pub overflow_add-result : goal.overflow_add-result
-overflow_add-result c = omega (arith, tops c 0, tops c 1, tops c 2, tops c 3)
+overflow_add-result c =
+    let h : Sized 64 4 c.args.mask.words = mask_words_lem c.args.mask c.well_formed.0 in
+    omega (arith, tops h 0, tops h 1, tops h 2, tops h 3)
 
 pub overflow_add-result-2 : goal.overflow_add-result-2
-overflow_add-result-2 c = omega (arith, tops c 0, tops c 1, tops c 2, tops c 3)
+overflow_add-result-2 c =
+    let h : Sized 64 4 c.args.mask.words = mask_words_lem c.args.mask c.well_formed.0 in
+    omega (arith, tops h 0, tops h 1, tops h 2, tops h 3)
 
 pub overflow_add-result-3 : goal.overflow_add-result-3
-overflow_add-result-3 c = omega (arith, tops c 0, tops c 1, tops c 2, tops c 3)
+overflow_add-result-3 c =
+    let h : Sized 64 4 c.args.mask.words = mask_words_lem c.args.mask c.well_formed.0 in
+    omega (arith, tops h 0, tops h 1, tops h 2, tops h 3)

@@ -27,7 +27,7 @@ returns-in-Bad c =
     let a = c.args in
     let l = c.loop-i in
     let got : one_more a.limit a.base l.v (get_or a.s.now l.i 0) ≡ refused Einval =
-    sym c.one_more.ensures ∙ ap outcome c.enum_told-1.given.1 in
+    sym c.in-Bad.ensures in
     sym (l.invariant.2 ∙ turn_at a.limit a.base l.v l.i a.s.now (omega arith) ∙ ap (and_digits a.limit a.base (drop (l.i + 1) a.s.now)) got)
 
 pub loop-i-preserved : goal.loop-i-preserved
@@ -35,8 +35,8 @@ unfolding outcome and_digits
 loop-i-preserved c =
     let a = c.args in
     let l = c.loop-i in
-    let got : one_more a.limit a.base l.v (get_or a.s.now l.i 0) ≡ granted c.next-1.given.0.0 =
-    sym c.one_more.ensures ∙ ap outcome c.next-1.given.1 in (
+    let got : one_more a.limit a.base l.v (get_or a.s.now l.i 0) ≡ granted c.in-Value.next =
+    sym c.in-Value.ensures in (
       omega arith,
       one_le a.limit a.base l.v (get_or a.s.now l.i 0) got,
       l.invariant.2 ∙ turn_at a.limit a.base l.v l.i a.s.now (omega arith) ∙ ap (and_digits a.limit a.base (drop (l.i + 1) a.s.now)) got,

@@ -4,6 +4,7 @@ use native.Mathlib.Omega.{arith}
 use mathlib.Core.Path.{◌≡◌, ◌∙◌}
 use lib.ListN.{length, drop}
 use borrow.Author.Rules.{rules}
+use Rattle.split.proofs.Laws.{end_within}
 use Rattle.parts.specs.Parts.{part}
 use Rattle.parts.proofs.Laws.{part_less, part_found}
 use Rattle.parts.proofs.part.Goals as goal
@@ -16,8 +17,22 @@ loop-left-preserved c =
 
 pub returns : goal.returns
 returns c =
-    let f = c in
-    let l = f.loop-left in
-    let a = f.args in
+    let l = c.loop-left in
+    let a = c.args in
     let none : l.left ≡ 0 = omega arith in
-    part_found a.s.now a.c l.start f.find.ensures.0 ∙ rw none at l.invariant.1
+    part_found a.s.now a.c l.start c.end.ensures ∙ rw none at l.invariant.1
+
+pub slice_bounds-result-count : goal.slice_bounds-result-count
+slice_bounds-result-count c =
+    let w = end_within c.args.c c.loop-left.start c.args.s.now c.loop-left.invariant.0 in
+    omega (arith, w.0, w.1, c.end.ensures)
+
+pub slice_bounds-result-start : goal.slice_bounds-result-start
+slice_bounds-result-start c =
+    let w = end_within c.args.c c.loop-left.start c.args.s.now c.loop-left.invariant.0 in
+    omega (arith, w.0, w.1, c.end.ensures)
+
+pub slice_bounds-result-end : goal.slice_bounds-result-end
+slice_bounds-result-end c =
+    let w = end_within c.args.c c.loop-left.start c.args.s.now c.loop-left.invariant.0 in
+    omega (arith, w.0, w.1, c.end.ensures)
