@@ -2,7 +2,7 @@
 -- The rules: RULES.md, "Refusals".
 -- Assumes nothing.
 use Rattle.std.specs.Prelude.{ℕ, List, ◌≡◌, length}
-use Rattle.std.specs.Borrow.{Bor}
+use Rattle.std.specs.Borrow.{MutBor}
 use Rattle.errno.specs.declared.Errno.{Errno}
 use Rattle.errno.specs.Errno.{number_of, name_of, padded}
 
@@ -24,5 +24,5 @@ pub record NamedBy {A : Type 0} (number_of : A → ℕ) (name_of : A → List �
 abbrev pub NameLeft : ℕ → List ℕ → List ℕ → ℕ → Type 0
 NameLeft value before after r = NamedBy number_of name_of value before after r
 
-abbrev pub NameShown : ℕ → Bor (List ℕ) → Bor (List ℕ) → ℕ → Type 0
+abbrev pub NameShown : ℕ → MutBor (List ℕ) → MutBor (List ℕ) → ℕ → Type 0
 NameShown value entry exit r = NameLeft value entry.now exit.now r
