@@ -1,5 +1,4 @@
 -- `beyond` meets its contract.
--- Assumes nothing.
 use Prim.Native.Nat.{ℕ, ◌+◌, ◌-◌, ◌*◌, ◌/◌, ◌%◌, ◌^◌, ◌≤◌, ◌<◌}
 use native.Mathlib.Omega.{arith}
 use mathlib.Core.Bool.{Bool, true, false, cond, ◌&&◌, and-false, and-true}
@@ -12,8 +11,7 @@ use borrow.Author.Rules.{rules}
 use Rattle.mask.specs.Bits.{digit, bits_above}
 use Rattle.mask.proofs.Bit.{digit_zero, digit_ones, one_shl, one_shl_pos}
 use Rattle.mask.proofs.Laws.{same_test, each_bits, below_four}
-use Rattle.limits.proofs.beyond.Statement.{statement}
-use Rattle.limits.proofs.beyond.Tie as tie
+use Rattle.limits.proofs.beyond.Goals as goal
 
 -- word q of the bits above a limit
 abbrev word_of : ℕ → ℕ → ℕ
@@ -41,21 +39,18 @@ past : (n i : ℕ) → 256 ≤ i → bits_above n i ≡ false
 unfolding bits_above
 past n i l = ap (λ (b : Bool). ltb n i && b) (le-ltb i 256 l) ∙ and-false (ltb n i)
 
-returns : tie.Need-returns
+pub returns : goal.returns
 unfolding bits_above
 returns c =
-    let n = c.before.before.before.before.args.limit in
-    let c₂ = c.before.before in
-    let ws = c₂.before.beyond-word.result ∷ c₂.beyond-word2.result ∷ c.before.beyond-word3.result ∷ c.beyond-word4.result ∷ [] in
+    let n = c.args.limit in
+    let c₂ = c in
+    let ws = c₂.beyond_word.result ∷ c₂.beyond_word-2.result ∷ c.beyond_word-3.result ∷ c.beyond_word-4.result ∷ [] in
     let words =
-    below_four (λ q. get_or ws q 0 ≡ word_of n q) c₂.before.beyond-word.ensures c₂.beyond-word2.ensures
-    c.before.beyond-word3.ensures c.beyond-word4.ensures in
+    below_four (λ q. get_or ws q 0 ≡ word_of n q) c₂.beyond_word.ensures c₂.beyond_word-2.ensures
+    c.beyond_word-3.ensures c.beyond_word-4.ensures in
     fun_ext
     (each_bits 64 4 ws (bits_above n) (omega arith) refl
     (λ q j l m. ap (λ (x : ℕ). digit x (63 - j)) (words q l) ∙ above n q j l m) (past n))
 
-pub beyond_spec : {M : Type 1} → statement M
-beyond_spec =
-    tie.close
-    (tie.spec (λ c. search rules) (λ c. search rules) (λ c. search rules) (λ c. search rules) (λ c. one_shl_pos 64 _ (omega arith)) (λ c κs. search rules)
-    (λ c κs. search rules) (λ c κs. search rules) (λ c κs. search rules) returns)
+pub overflow_sub-part-2 : goal.overflow_sub-part-2
+overflow_sub-part-2 c = one_shl_pos 64 _ (omega arith)
