@@ -1,8 +1,0 @@
--- `small_words` meets its contract, by what a slice tells of its elements.
--- Assumes nothing.
-use borrow.Author.Rules.{rules}
-use Rattle.layout.proofs.small_words.Statement.{statement}
-use Rattle.layout.proofs.small_words.Tie as tie
-
-pub small_words_spec : {M : Type 1} → statement M
-small_words_spec = tie.close (tie.spec (λ c κs. search rules) (λ c. λ k. (c.before.shared-slice-known.given k).fits))
