@@ -1,0 +1,10 @@
+-- `row` meets its contract. The facts are searched for, so that another row fails as a fact.
+use borrow.Author.Rules.{rules}
+use Rattle.product.proofs.Laws.{row_of, row_none}
+use Rattle.product.proofs.Product.row.Goals as goal
+
+pub returns-then-has_adapter : goal.returns-then-has_adapter
+returns-then-has_adapter c = search (row_of)
+
+pub returns : goal.returns
+returns c = search (row_none)
