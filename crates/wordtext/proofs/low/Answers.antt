@@ -1,0 +1,16 @@
+-- `low` meets its contract.
+use native.Mathlib.Omega.{arith}
+use mathlib.Core.Bool.{true≢false}
+use mathlib.Core.Path.{refl}
+use Rattle.wordtext.specs.Words.{byte_read}
+use Rattle.wordtext.proofs.Laws.{byte_is, byte_not}
+use borrow.Author.Rules.{rules}
+use Rattle.wordtext.proofs.low.Goals as goal
+
+pub returns-then-n-lt256 : goal.returns-then-n-lt256
+unfolding byte_read
+returns-then-n-lt256 c = (byte_is c.args.n (omega arith), λ e. absurd (true≢false e))
+
+pub returns : goal.returns
+unfolding byte_read
+returns c = (byte_not c.args.n (omega arith), λ e. refl)
