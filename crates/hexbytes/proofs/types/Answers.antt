@@ -1,0 +1,25 @@
+-- `types` meets its contract.
+use mathlib.Core.Bool.{true≢false}
+use mathlib.Core.List.{List}
+use mathlib.Core.Path.{refl, sym, ap, ◌∙◌}
+use Prim.Native.Nat.{ℕ}
+use lib.ListN.{length}
+use borrow.Author.Rules.{rules}
+use Rattle.hexbytes.specs.HexBytes.{types_read, types_text, no_types}
+use Rattle.hexbytes.proofs.Laws.{read_good, read_bad, none_long}
+use Rattle.hexbytes.proofs.types.Goals as goal
+
+pub returns-then-fill : goal.returns-then-fill
+unfolding types_read types_text
+returns-then-fill c =
+    let f = c in
+    (read_good (λ (l : List ℕ). l) 256 f.fill.ensures (none_long f.no_types-types.ensures) c.if-fill.true refl, λ e. absurd (true≢false e))
+
+pub returns : goal.returns
+unfolding types_read types_text
+returns c =
+    let f = c in
+    (read_bad (λ (l : List ℕ). l) 256 f.fill.ensures (none_long f.no_types-types.ensures) c.if-fill.false, λ e. c.no_types.ensures)
+
+pub slice_bounds-fill-end : goal.slice_bounds-fill-end
+slice_bounds-fill-end c = none_long c.no_types-types.ensures
