@@ -1,5 +1,4 @@
 -- `to_bytes` meets its contract. The invariant: each byte up to i is the right one.
--- Assumes nothing.
 use Prim.Native.Nat.{ℕ, ◌-◌, ◌≤◌, ◌<◌}
 use native.Mathlib.Nat.{zero-add}
 use native.Mathlib.Omega.{arith}
@@ -12,18 +11,11 @@ use Rattle.fields.specs.Fields.{id_of}
 use Rattle.rows.proofs.Laws.{same_row}
 use Rattle.idbytes.specs.IdBytes.{id_byte, id_bytes}
 use Rattle.idbytes.proofs.Laws.{id_back}
-use Rattle.idbytes.proofs.to_bytes.Statement.{statement}
-use Rattle.idbytes.proofs.to_bytes.Tie as tie
+use Rattle.idbytes.proofs.to_bytes.Goals as goal
 
-abbrev invariant-loop : tie.invariant-loop
-invariant-loop id out₀ i₀ out i = (i ≤ 16) × (length out ≡ 16) × ((j : ℕ) → j < i → get_or out j 0 ≡ id_byte id j)
-
-abbrev decreases-loop : tie.decreases-loop
-decreases-loop id out₀ i₀ out i = 16 - i
-
-loop-again : tie.Need-loop-preserved invariant-loop decreases-loop
-loop-again c =
-    let l = c.before.before.loop in
+pub loop-i-preserved : goal.loop-i-preserved
+loop-i-preserved c =
+    let l = c.loop-i in
     let x = c.byte_at.result in (
       search rules,
       search rules,
@@ -32,16 +24,11 @@ loop-again c =
           (get_or-set_same l.out l.i x 0 (omega arith) ∙ c.byte_at.ensures),
     )
 
-returns : tie.Need-returns invariant-loop decreases-loop
+pub returns : goal.returns
 unfolding id_bytes
 returns c =
-    let l = c.before.loop in
-    let s = c.before.before in
+    let l = c.loop-i in
+    let s = c in
     let i = s.args.id in
     let b : l.out ≡ id_bytes i = same_row (id_byte i) l.out 0 16 l.invariant.1 (λ j h. l.invariant.2 j (omega arith) ∙ ap (id_byte i) (sym (zero-add j))) in
     record { bytes = b; back = ap id_of b ∙ id_back i (omega (arith, s)) (omega (arith, s)) }
-
-pub to_bytes_spec : {M : Type 1} → statement M
-to_bytes_spec =
-    tie.close
-    (tie.spec invariant-loop decreases-loop (λ c. search rules) (λ c κs. search rules) (λ c. search rules) (λ c. search rules) (λ c. search rules) loop-again returns)
