@@ -16,10 +16,6 @@ Lent = Bor (List ℕ)
 abbrev pub LentMut : Type 0
 LentMut = MutBor (List ℕ)
 
--- lent numbers that may be changed
-abbrev pub LentMut : Type 0
-LentMut = MutBor (List ℕ)
-
 -- the parts of the words
 abbrev pub limits : Lent → Limits
 limits words = limits_in words.now
