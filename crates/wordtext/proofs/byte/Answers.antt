@@ -7,8 +7,14 @@ use Rattle.wordtext.proofs.byte.Goals as goal
 
 pub returns-in-Value : goal.returns-in-Value
 unfolding byte_text outcome
-returns-in-Value c = (c.low.ensures.0 ∙ ap (at_most 255) (sym (ap outcome c.in-Value.is) ∙ c.parse.ensures), c.low.ensures.1)
+returns-in-Value c = record {
+  result_value = c.low.ensures.result_value ∙ ap (at_most 255) (sym (ap outcome c.in-Value.is) ∙ c.parse.ensures);
+  value_value = c.low.ensures.value_value;
+}
 
 pub returns-in-Bad : goal.returns-in-Bad
 unfolding byte_read byte_text outcome at_most
-returns-in-Bad c = (ap (at_most 255) (sym (ap outcome c.in-Bad.is) ∙ c.parse.ensures), λ e. refl)
+returns-in-Bad c = record {
+  result_value = ap (at_most 255) (sym (ap outcome c.in-Bad.is) ∙ c.parse.ensures);
+  value_value = λ e. refl;
+}

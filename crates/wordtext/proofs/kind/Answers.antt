@@ -11,16 +11,22 @@ use Rattle.wordtext.proofs.kind.Goals as goal
 
 pub returns-then-is : goal.returns-then-is
 unfolding kind_read kind_text ascii
-returns-then-is c = (sym (first_yes _ (sym c.is.ensures ∙ c.if-is.true)), λ e. absurd (true≢false e))
+returns-then-is c = record {
+  result_value = sym (first_yes _ (sym c.is.ensures ∙ c.if-is.true));
+  kind_value = λ e. absurd (true≢false e);
+}
 
 pub returns-then-is-2 : goal.returns-then-is-2
 unfolding kind_read kind_text ascii
-returns-then-is-2 c = (sym (first_no _ (sym c.is.ensures ∙ c.if-is.false) ∙ first_yes _ (sym c.is-2.ensures ∙ c.if-is-2.true)), λ e. absurd (true≢false e))
+returns-then-is-2 c = record {
+  result_value = sym (first_no _ (sym c.is.ensures ∙ c.if-is.false) ∙ first_yes _ (sym c.is-2.ensures ∙ c.if-is-2.true));
+  kind_value = λ e. absurd (true≢false e);
+}
 
 pub returns : goal.returns
 unfolding kind_read kind_text ascii
-returns c = (
-  ap (λ (b : Bool). cond b (granted Control) bad) c.is-3.ensures
-      ∙ sym (first_no _ (sym c.is.ensures ∙ c.if-is.false) ∙ first_no _ (sym c.is-2.ensures ∙ c.if-is-2.false)),
-  λ e. refl,
-)
+returns c = record {
+  result_value = ap (λ (b : Bool). cond b (granted Control) bad) c.is-3.ensures
+      ∙ sym (first_no _ (sym c.is.ensures ∙ c.if-is.false) ∙ first_no _ (sym c.is-2.ensures ∙ c.if-is-2.false));
+  kind_value = λ e. refl;
+}

@@ -9,8 +9,14 @@ use Rattle.wordtext.proofs.low.Goals as goal
 
 pub returns-then-n-lt256 : goal.returns-then-n-lt256
 unfolding byte_read
-returns-then-n-lt256 c = (byte_is c.args.n (omega arith), λ e. absurd (true≢false e))
+returns-then-n-lt256 c = record {
+  result_value = byte_is c.args.n (omega arith);
+  value_value = λ e. absurd (true≢false e);
+}
 
 pub returns : goal.returns
 unfolding byte_read
-returns c = (byte_not c.args.n (omega arith), λ e. refl)
+returns c = record {
+  result_value = byte_not c.args.n (omega arith);
+  value_value = λ e. refl;
+}
