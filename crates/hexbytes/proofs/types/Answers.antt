@@ -13,13 +13,19 @@ pub returns-then-fill : goal.returns-then-fill
 unfolding types_read types_text
 returns-then-fill c =
     let f = c in
-    (read_good (λ (l : List ℕ). l) 256 f.fill.ensures (none_long f.no_types-types.ensures) c.if-fill.true refl, λ e. absurd (true≢false e))
+    record {
+      result_value = read_good (λ (l : List ℕ). l) 256 f.fill.ensures (none_long f.no_types-types.ensures) c.if-fill.true refl;
+      types_value = λ e. absurd (true≢false e);
+    }
 
 pub returns : goal.returns
 unfolding types_read types_text
 returns c =
     let f = c in
-    (read_bad (λ (l : List ℕ). l) 256 f.fill.ensures (none_long f.no_types-types.ensures) c.if-fill.false, λ e. c.no_types.ensures)
+    record {
+      result_value = read_bad (λ (l : List ℕ). l) 256 f.fill.ensures (none_long f.no_types-types.ensures) c.if-fill.false;
+      types_value = λ e. c.no_types.ensures;
+    }
 
 pub slice_bounds-fill-end : goal.slice_bounds-fill-end
 slice_bounds-fill-end c = none_long c.no_types-types.ensures
