@@ -123,6 +123,14 @@ class Function:
             if old != new:
                 self.labels[norm(old)] = new
                 self.labels[norm(old) + "_test"] = new + "-test"
+        self.arms = {}
+        for arm in names.get("arms") or []:
+            if not arm:
+                continue
+            label, _, fields = arm
+            for new, old, path in fields:
+                if path:
+                    self.arms.setdefault(norm(old) + "." + ".".join(path), f"{label}.{new}")
         self.names_now = {p[2][1] for p in names["places"]}
         self.states = {}
         for p, new in zip(names["places"], names["places_by_name"]):
@@ -133,6 +141,11 @@ class Function:
         states = {"BEFORE", "c"} | set(re.findall(rf"let ({W}) = {W}(?:\.before)* in", text))
         text = re.sub(r"(\.before)+(?=\.)", ".BEFORE", text)
         text = re.sub(r"(\.before)+(?![\w-])", "", text)
+        for old in sorted(self.arms, key=lambda o: -len(o)):
+            label, path = old.split(".", 1)
+            text = re.sub(
+                rf"\.{label.replace('_', '[-_]')}\.{re.escape(path)}(?![\w-])", "." + self.arms[old], text
+            )
 
         def one(m):
             pre, label = m.group(1), m.group(2)
@@ -253,7 +266,9 @@ class Function:
             d = by_name.get(a)
             if d:
                 used.add(a)
-                answers.append((new, d, None))
+                code = " ".join(l for l in d[1] if not l.startswith("--"))
+                if not re.search(r" c( κs)? =\s*search rules\s*$", code):
+                    answers.append((new, d, None))
                 continue
             m2 = re.match(r"^\(λ c((?: [^ .]+)*)\.\s*(.*)\)$", a, re.S)
             if m2:
@@ -324,8 +339,7 @@ class Function:
         return None
 
     def renamed(self, lines, old, new, again):
-        out = []
-        comment = [l for l in lines if l.startswith("--")]
+        comment = [l for l in lines if l.startswith("--") and not l.startswith("-- src/")]
         code = [l for l in lines if not l.startswith("--")]
         text = "\n".join(code)
         text = self.types(self.steps(text))
