@@ -1,0 +1,18 @@
+-- `put_types` meets its contract. The loop's invariant: the types of the first a adapters are put.
+use Prim.Native.Nat.{◌<◌, ◌≤◌, ◌-◌}
+use native.Mathlib.Nat.{mod-eq_of_lt}
+use native.Mathlib.Omega.{arith}
+use mathlib.Core.Path.{refl, ap, ◌∙◌, ◌≡◌}
+use mathlib.Core.Bool.{Bool, cond}
+use lib.ListN.{get_or}
+use borrow.Author.Rules.{rules}
+use Rattle.mask.specs.Bits.{bits}
+use Rattle.layout.specs.Layout.{put_types}
+use Rattle.layout.proofs.Laws.{types_next}
+use Rattle.store.proofs.put_types.Given as goal
+
+abbrev pub invariant-loop-a : goal.invariant-loop-a
+invariant-loop-a l = (l.a ≤ 256) × (l.words ≡ put_types l.initial.words (λ i. cond (bits l.adapters i) (get_or l.types i 0) 0) l.a)
+
+abbrev pub decreases-loop-a : goal.decreases-loop-a
+decreases-loop-a l = 256 - l.a
