@@ -4,13 +4,13 @@ use native.Mathlib.Omega.{arith}
 use mathlib.Core.Path.{sym, ap, ◌∙◌}
 use mathlib.Core.Bool.{Bool, cond}
 use mathlib.Core.List.{List, [], ◌∷◌}
-use mathlib.Core.Logic.{⊎_elim}
 use borrow.Author.Tests.{le-ltb}
 use borrow.Author.Rules.{rules}
 use Rattle.rules.specs.State.{slots}
 use Rattle.layout.specs.Layout.{put_four, zeros, put_device}
 use Rattle.layout.proofs.Laws.{cond_below}
 use Rattle.store.proofs.put_device.Goals as goal
+use Rattle.store.proofs.put_device.Goals.{then-present, else-present}
 
 pub returns-after-present : goal.returns-after-present
 unfolding put_device
@@ -22,8 +22,7 @@ returns-after-present c =
     (c.put_mask-then-slot-lt-SLOTS.ensures ∙ ap (λ (l : List ℕ). put_four l (k + 4) zeros)
     (c.put_mask.ensures
     ∙ ap (λ (x : ℕ). put_four a.words.now k (x ∷ 0 ∷ a.id.hi ∷ a.id.lo ∷ []))
-    (⊎_elim (λ w. w.1 ∙ sym (ap (λ (b : Bool). cond b 1 0) w.0.taken)) (λ w. w.1 ∙ sym (ap (λ (b : Bool). cond b 1 0) w.0.left))
-    c.if-present.branch))))
+    (elim c.if-present.branch [ then-present w ↦ w.first-is ∙ sym (ap (λ (b : Bool). cond b 1 0) w.if-present.true) | else-present w ↦ w.first-is ∙ sym (ap (λ (b : Bool). cond b 1 0) w.if-present.false) ]))))
     ∙ sym (cond_below a.slot slots _ a.words.now (omega arith))
 
 pub returns-else-slot-lt-SLOTS : goal.returns-else-slot-lt-SLOTS

@@ -3,19 +3,19 @@ use Prim.Native.Nat.{◌+◌, ◌*◌}
 use native.Mathlib.Omega.{arith}
 use mathlib.Core.Path.{sym, ap, ◌∙◌}
 use mathlib.Core.Bool.{Bool, cond}
-use mathlib.Core.Logic.{⊎_elim}
 use lib.ListN.{set}
 use borrow.Author.Tests.{lt-ltb, le-ltb}
 use borrow.Author.Rules.{rules}
 use Rattle.layout.specs.Layout.{put_open}
 use Rattle.store.proofs.put_open.Goals as goal
+use Rattle.store.proofs.put_open.Goals.{then-opened, else-opened}
 
 pub returns-after-opened : goal.returns-after-opened
 unfolding put_open
 returns-after-opened c =
     let a = c.args in
     simp (lt-ltb a.slot 8 (omega arith)) (ap (set a.words.now (278 + a.slot * 16 + 1))
-    (⊎_elim (λ w. w.1 ∙ sym (ap (λ (b : Bool). cond b 1 0) w.0.taken)) (λ w. w.1 ∙ sym (ap (λ (b : Bool). cond b 1 0) w.0.left)) c.if-opened.branch))
+    (elim c.if-opened.branch [ then-opened w ↦ w.words-is ∙ sym (ap (λ (b : Bool). cond b 1 0) w.if-opened.true) | else-opened w ↦ w.words-is ∙ sym (ap (λ (b : Bool). cond b 1 0) w.if-opened.false) ]))
 
 pub returns-else-slot-lt-SLOTS : goal.returns-else-slot-lt-SLOTS
 unfolding put_open

@@ -17,9 +17,9 @@ loop-a-preserved c =
     let h : a < 256 = omega arith in
     let r = c.args in (
       omega arith,
-      types_next r.words.now c.loop-a.words (λ i. cond (bits r.adapters i) (get_or r.t3 i 0) 0) a c.type_of.result
+      types_next r.words.now c.loop-a.words (λ i. cond (bits r.adapters i) (get_or r.types i 0) 0) a c.type_of.result
           c.loop-a.invariant.1
-          (c.type_of.ensures ∙ ap (λ (b : Bool). cond b (get_or r.t3 a 0) 0) (c.has_adapter.ensures ∙ ap (bits r.adapters) (mod-eq_of_lt h))),
+          (c.type_of.ensures ∙ ap (λ (b : Bool). cond b (get_or r.types a 0) 0) (c.has_adapter.ensures ∙ ap (bits r.adapters) (mod-eq_of_lt h))),
     )
 
 pub loop-a-init : goal.loop-a-init
