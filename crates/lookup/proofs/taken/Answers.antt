@@ -1,5 +1,4 @@
 -- `taken` meets its contract. The loop's invariant: no device at a slot passed shares a queue.
--- Assumes nothing.
 use Prim.Native.Nat.{ℕ, ◌-◌, ◌≤◌}
 use native.Mathlib.Omega.{arith}
 use mathlib.Core.Logic.{⊎_elim}
@@ -14,60 +13,39 @@ use Rattle.rules.specs.State.{slots}
 use Rattle.layout.specs.Layout.{device_in}
 use Rattle.product.specs.Meet.{queues_of}
 use Rattle.lookup.proofs.Laws.{shared, none_next, and_yes, and_no}
-use Rattle.lookup.proofs.taken.Statement.{statement}
-use Rattle.lookup.proofs.taken.Tie as tie
+use Rattle.lookup.proofs.taken.Goals as goal
 
-abbrev invariant-loop : tie.invariant-loop
-invariant-loop words slot wanted other₀ other = (other ≤ slots) × (some_below other (shared slot (device_in words) (queues_of wanted)) ≡ false)
-
-abbrev decreases-loop : tie.decreases-loop
-decreases-loop words slot wanted other₀ other = slots - other
-
-loop-holds : tie.Need-loop-init invariant-loop decreases-loop
+pub loop-other-init : goal.loop-other-init
 unfolding some_below
-loop-holds c = (omega arith, refl)
+loop-other-init c = (omega arith, refl)
 
-returns : tie.Need-returns invariant-loop decreases-loop
-returns c =
-    let a = c.before.before.before.before.before.args in
-    let j = c.before.before.before.before.loop.other in
+pub returns-then-shares : goal.returns-then-shares
+returns-then-shares c =
+    let a = c.args in
+    let j = c.loop-other.other in
     let f = shared a.slot (device_in a.words.now) (queues_of a.wanted) in
     sym (taken_by a.slot (device_in a.words.now) (queues_of a.wanted)
     ∙ some_intro slots f j (omega arith)
-    (and_yes (ap not (ne_eqb j a.slot c.before.before.if1.true)) ∙ sym c.before.shares.ensures ∙ c.if2.true))
+    (and_yes (ap not (ne_eqb j a.slot c.if-other-slot.true)) ∙ sym c.shares.ensures ∙ c.if-shares.true))
 
-loop-again : tie.Need-loop-preserved invariant-loop decreases-loop
-loop-again c =
-    let a = c.before.before.before.args in
-    let l = c.before.before.loop in
+pub loop-other-preserved : goal.loop-other-preserved
+loop-other-preserved c =
+    let a = c.args in
+    let l = c.loop-other in
     let f = shared a.slot (device_in a.words.now) (queues_of a.wanted) in (
       omega arith,
       none_next l.other f l.invariant.1
           (⊎_elim
           (λ w. and_yes (ap not (ne_eqb l.other a.slot w.0.taken)) ∙ sym w.1.ensures ∙ w.2.left)
           (λ w. and_no _ (ap not (eq-eqb l.other a.slot w.left)))
-          c.if1.branch),
+          c.if-other-slot.branch),
     )
 
-returns-2 : tie.Need-returns-2 invariant-loop decreases-loop
-returns-2 c =
-    let a = c.before.before.args in
-    let l = c.before.loop in
+pub returns : goal.returns
+returns c =
+    let a = c.args in
+    let l = c.loop-other in
     let f = shared a.slot (device_in a.words.now) (queues_of a.wanted) in
     let last : l.other ≡ slots = omega arith in
     sym (taken_by a.slot (device_in a.words.now) (queues_of a.wanted)
     ∙ ap (λ (n : ℕ). some_below n f) (sym last) ∙ l.invariant.1)
-
-pub taken_spec : {M : Type 1} → statement M
-taken_spec =
-    tie.close
-    (tie.spec
-    invariant-loop
-    decreases-loop
-    loop-holds
-    (λ c κs. search rules)
-    returns
-    (λ c. search rules)
-    (λ c. search rules)
-    loop-again
-    returns-2)

@@ -1,0 +1,38 @@
+-- `free` meets its contract. The loop's invariant: the first of the slots left is the answer.
+use Prim.Native.Nat.{ℕ, ◌-◌, ◌≤◌}
+use native.Mathlib.Omega.{arith}
+use mathlib.Core.List.{List}
+use mathlib.Core.Bool.{not}
+use mathlib.Core.Path.{◌≡◌, refl, sym, ap, ◌∙◌}
+use borrow.Author.Rules.{rules}
+use Rattle.mask.specs.Bits.{Bits}
+use Rattle.rules.specs.Commands.{first_from, free_slot}
+use Rattle.rules.proofs.First.{turn_here, turn_next, turn_end}
+use Rattle.layout.specs.Layout.{device_in}
+use Rattle.lookup.proofs.free.Goals as goal
+
+-- there is no device at a slot
+abbrev empty : List ℕ → Bits
+empty ws j = not (device_in ws j).present
+
+pub loop-at-init : goal.loop-at-init
+unfolding free_slot
+loop-at-init c = (omega arith, refl)
+
+pub returns-then-not-occupied : goal.returns-then-not-occupied
+returns-then-not-occupied c =
+    let a = c.args in
+    let l = c.loop-at in
+    sym (l.invariant.1 ∙ turn_here 8 l.at (empty a.words.now) (omega arith) (ap not (sym c.occupied.ensures) ∙ c.if-not-occupied.true))
+
+pub loop-at-preserved : goal.loop-at-preserved
+loop-at-preserved c =
+    let a = c.args in
+    let l = c.loop-at in
+    (omega arith, l.invariant.1 ∙ turn_next 8 l.at (empty a.words.now) (omega arith) (ap not (sym c.occupied.ensures) ∙ c.if-not-occupied.false))
+
+pub returns : goal.returns
+returns c =
+    let a = c.args in
+    let l = c.loop-at in
+    sym (l.invariant.1 ∙ turn_end 8 l.at (empty a.words.now) (omega arith))

@@ -1,0 +1,18 @@
+-- `free` meets its contract. The loop's invariant: the first of the slots left is the answer.
+use Prim.Native.Nat.{ℕ, ◌-◌, ◌≤◌}
+use native.Mathlib.Omega.{arith}
+use mathlib.Core.List.{List}
+use mathlib.Core.Bool.{not}
+use mathlib.Core.Path.{◌≡◌, refl, sym, ap, ◌∙◌}
+use borrow.Author.Rules.{rules}
+use Rattle.mask.specs.Bits.{Bits}
+use Rattle.rules.specs.Commands.{first_from, free_slot}
+use Rattle.rules.proofs.First.{turn_here, turn_next, turn_end}
+use Rattle.layout.specs.Layout.{device_in}
+use Rattle.lookup.proofs.free.Given as goal
+
+abbrev pub invariant-loop-at : goal.invariant-loop-at
+invariant-loop-at l = (l.at ≤ 8) × (free_slot (device_in l.words) ≡ first_from (8 - l.at) l.at (empty l.words))
+
+abbrev pub decreases-loop-at : goal.decreases-loop-at
+decreases-loop-at l = 8 - l.at
