@@ -1,0 +1,28 @@
+-- `clear_slots` meets its contract. The loop's invariant: the slots passed are emptied.
+use Prim.Native.Nat.{ℕ, ◌≤◌, ◌-◌}
+use native.Mathlib.Numerals.{add-one}
+use native.Mathlib.Omega.{arith}
+use mathlib.Core.Bool.{false}
+use mathlib.Core.List.{List}
+use mathlib.Core.Path.{◌≡◌, refl, sym, ap, ◌∙◌}
+use borrow.Author.Rules.{rules}
+use Rattle.rules.specs.State.{slots}
+use Rattle.layout.specs.Layout.{no_id, put_device, clear_slots}
+use Rattle.setup.proofs.clear_slots.Goals as goal
+
+pub loop-slot-preserved : goal.loop-slot-preserved
+unfolding clear_slots
+loop-slot-preserved c =
+    let l = c.loop-slot in (
+      omega arith,
+      c.put_device.ensures ∙ ap (λ (ws : List ℕ). put_device ws l.slot false no_id) l.invariant.1 ∙ ap (clear_slots c.args.words.now) (sym (add-one l.slot)),
+    )
+
+pub returns : goal.returns
+returns c =
+    let e : c.loop-slot.slot ≡ slots = omega arith in
+    c.loop-slot.invariant.1 ∙ ap (clear_slots c.args.words.now) e
+
+pub loop-slot-init : goal.loop-slot-init
+unfolding clear_slots
+loop-slot-init c = (omega arith, refl)
