@@ -138,6 +138,7 @@ class Function:
         self.goals = {norm(a): b for a, b in names["needs"]}
 
     def steps(self, text):
+        of_args = set(re.findall(rf"let ({W}) = [\w.'-]*\.args in", text))
         states = {"BEFORE", "c"} | set(re.findall(rf"let ({W}) = {W}(?:\.before)* in", text))
         text = re.sub(r"(\.before)+(?=\.)", ".BEFORE", text)
         text = re.sub(r"(\.before)+(?![\w-])", "", text)
@@ -154,7 +155,7 @@ class Function:
                 return f"{pre}.{norm(label)}"
             if not new:
                 return m.group(0)
-            if pre in ("args", "new", "initial", "fn", "auto", "ranges", "type_inv"):
+            if pre in of_args or pre in ("args", "new", "initial", "fn", "auto", "ranges", "type_inv"):
                 return m.group(0)
             if (norm(label) in self.vars or re.search(r"-\d+$", new)) and pre not in states:
                 return m.group(0)
@@ -164,7 +165,11 @@ class Function:
         for _ in range(3):
             text = re.sub(rf"(BEFORE)\.({W})", one, text)
         text = text.replace(".BEFORE.", ".").replace(".BEFORE", "")
+        aliases = set(re.findall(rf"let ({W}) = [\w.'-]*\.args in", text))
         for old, new in self.moved:
+            if old.startswith(".args.") and new.startswith(".args."):
+                for alias in aliases:
+                    text = re.sub(rf"(?<![\w.'-]){alias}{re.escape(old[5:])}(?![\w-])", alias + new[5:], text)
             text = re.sub(rf"{re.escape(old)}(?![\w-])", new, text)
         text = text.replace(".well-formed", ".well_formed").replace(".type-inv", ".type_inv")
         return text
@@ -262,8 +267,13 @@ class Function:
         used = set()
         for i, a in enumerate(rest):
             k = pairs.get(i)
-            new = needs[k][1] if k is not None else f"unplaced-{i}"
             d = by_name.get(a)
+            if k is None:
+                if d:
+                    used.add(a)
+                self.said.append(f"left out: {a[:80]}")
+                continue
+            new = needs[k][1]
             if d:
                 used.add(a)
                 code = " ".join(l for l in d[1] if not l.startswith("--"))
@@ -291,9 +301,16 @@ class Function:
             if name in used:
                 continue
         ordered = []
+        told = "\n".join("\n".join(lines) for _, lines in inv)
+        shared = []
+        for name, lines in groups:
+            if name and name not in used and name not in inv_names and name != spec[0]:
+                if re.search(rf"(?<![\w.'-]){re.escape(name)}(?![\w'-])", told):
+                    shared.append((name, lines))
+        shared_names = [n for n, _ in shared]
         done = set()
         for name, lines in groups:
-            if name == spec[0] or name in inv_names:
+            if name == spec[0] or name in inv_names or name in shared_names:
                 continue
             if name in used:
                 for new, d, _ in answers:
@@ -326,6 +343,8 @@ class Function:
         h = [x for x in head if "Assumes nothing" not in x]
         if inv:
             texts = []
+            for name, lines in shared:
+                texts.append(re.sub(r"^((?:abbrev |unfoldable )*)(?!pub )(\S+ : )", r"\1pub \2", "\n".join(lines), flags=re.M))
             for name, lines in inv:
                 texts.append(self.invariant(name, lines))
             open(f"{self.folder}/Invariants.antt", "w").write(
@@ -333,6 +352,8 @@ class Function:
             )
         if ordered:
             text = "\n\n".join(ordered)
+            if shared_names:
+                keep.append(f"use {module}.Invariants.{{{', '.join(shared_names)}}}")
             open(f"{self.folder}/Answers.antt", "w").write(
                 "\n".join(h + keep + [f"use {module}.Goals as goal", ""]) + "\n" + text + "\n"
             )
