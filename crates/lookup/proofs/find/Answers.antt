@@ -10,8 +10,27 @@ use Rattle.rules.specs.declared.Id.{Id}
 use Rattle.rules.specs.Commands.{first_from, slot_of, same_id}
 use Rattle.rules.proofs.First.{turn_here, turn_next, turn_end}
 use Rattle.layout.specs.Layout.{device_in}
+use Rattle.lookup.proofs.find.Invariants.{here}
 use Rattle.lookup.proofs.find.Goals as goal
 
--- the device with the id is at a slot
-abbrev here : Id → List ℕ → Bits
-here i ws j = (device_in ws j).present && same_id i (device_in ws j).id
+pub loop-slot-init : goal.loop-slot-init
+unfolding slot_of
+loop-slot-init c = (omega arith, refl)
+
+pub returns-then-is_at : goal.returns-then-is_at
+returns-then-is_at c =
+    let a = c.args in
+    let l = c.loop-slot in
+    sym (l.invariant.1 ∙ turn_here 8 l.slot (here a.id a.words.now) (omega arith) (sym c.is_at.ensures ∙ c.if-is_at.true))
+
+pub loop-slot-preserved : goal.loop-slot-preserved
+loop-slot-preserved c =
+    let a = c.args in
+    let l = c.loop-slot in
+    (omega arith, l.invariant.1 ∙ turn_next 8 l.slot (here a.id a.words.now) (omega arith) (sym c.is_at.ensures ∙ c.if-is_at.false))
+
+pub returns : goal.returns
+returns c =
+    let a = c.args in
+    let l = c.loop-slot in
+    sym (l.invariant.1 ∙ turn_end 8 l.slot (here a.id a.words.now) (omega arith))

@@ -12,6 +12,10 @@ use Rattle.rules.proofs.First.{turn_here, turn_next, turn_end}
 use Rattle.layout.specs.Layout.{device_in}
 use Rattle.lookup.proofs.find.Given as goal
 
+-- the device with the id is at a slot
+abbrev pub here : Id → List ℕ → Bits
+here i ws j = (device_in ws j).present && same_id i (device_in ws j).id
+
 abbrev pub invariant-loop-slot : goal.invariant-loop-slot
 invariant-loop-slot l = (l.slot ≤ 8) × (slot_of l.id (device_in l.words) ≡ first_from (8 - l.slot) l.slot (here l.id l.words))
 

@@ -9,11 +9,8 @@ use Rattle.mask.specs.Bits.{Bits}
 use Rattle.rules.specs.Commands.{first_from, free_slot}
 use Rattle.rules.proofs.First.{turn_here, turn_next, turn_end}
 use Rattle.layout.specs.Layout.{device_in}
+use Rattle.lookup.proofs.free.Invariants.{empty}
 use Rattle.lookup.proofs.free.Goals as goal
-
--- there is no device at a slot
-abbrev empty : List ℕ → Bits
-empty ws j = not (device_in ws j).present
 
 pub loop-at-init : goal.loop-at-init
 unfolding free_slot
@@ -23,13 +20,13 @@ pub returns-then-not-occupied : goal.returns-then-not-occupied
 returns-then-not-occupied c =
     let a = c.args in
     let l = c.loop-at in
-    sym (l.invariant.1 ∙ turn_here 8 l.at (empty a.words.now) (omega arith) (ap not (sym c.occupied.ensures) ∙ c.if-not-occupied.true))
+    sym (l.invariant.1 ∙ turn_here 8 l.at (empty a.words.now) (omega arith) (ap not (sym c.occupied.ensures ∙ c.if-not-occupied.true)))
 
 pub loop-at-preserved : goal.loop-at-preserved
 loop-at-preserved c =
     let a = c.args in
     let l = c.loop-at in
-    (omega arith, l.invariant.1 ∙ turn_next 8 l.at (empty a.words.now) (omega arith) (ap not (sym c.occupied.ensures) ∙ c.if-not-occupied.false))
+    (omega arith, l.invariant.1 ∙ turn_next 8 l.at (empty a.words.now) (omega arith) (ap not (sym c.occupied.ensures ∙ c.if-not-occupied.false)))
 
 pub returns : goal.returns
 returns c =

@@ -11,6 +11,10 @@ use Rattle.rules.proofs.First.{turn_here, turn_next, turn_end}
 use Rattle.layout.specs.Layout.{device_in}
 use Rattle.lookup.proofs.free.Given as goal
 
+-- there is no device at a slot
+abbrev pub empty : List ℕ → Bits
+empty ws j = not (device_in ws j).present
+
 abbrev pub invariant-loop-at : goal.invariant-loop-at
 invariant-loop-at l = (l.at ≤ 8) × (free_slot (device_in l.words) ≡ first_from (8 - l.at) l.at (empty l.words))
 

@@ -12,7 +12,7 @@ returns-then-id-j c =
     let a = c.args in
     let there = sym c.occupied.ensures ∙ c.if-occupied.true in
     let same = c.id-j.ensures in
-    sym (and_yes there ∙ ap (same_id a.id-j) (sym same) ∙ and_yes (eq-eqb _ _ c.if-id-j.true))
+    sym (and_yes there ∙ ap (same_id a.id) (sym same) ∙ and_yes (eq-eqb _ _ c.if-id-j.true))
 
 pub returns-else-id-j : goal.returns-else-id-j
 unfolding same_id
@@ -20,7 +20,7 @@ returns-else-id-j c =
     let a = c.args in
     let there = sym c.occupied.ensures ∙ c.if-occupied.true in
     let same = c.id-j.ensures in
-    sym (and_yes there ∙ ap (same_id a.id-j) (sym same) ∙ and_no _ (ne_eqb _ _ c.if-id-j.false))
+    sym (and_yes there ∙ ap (same_id a.id) (sym same) ∙ and_no _ (ne_eqb _ _ c.if-id-j.false))
 
 pub returns-else-occupied : goal.returns-else-occupied
 returns-else-occupied c = sym (and_no _ (sym c.occupied.ensures ∙ c.if-occupied.false))

@@ -14,6 +14,7 @@ use Rattle.layout.specs.Layout.{device_in}
 use Rattle.product.specs.Meet.{queues_of}
 use Rattle.lookup.proofs.Laws.{shared, none_next, and_yes, and_no}
 use Rattle.lookup.proofs.taken.Goals as goal
+use Rattle.lookup.proofs.taken.Goals.{then-other-slot+else-shares, else-other-slot}
 
 pub loop-other-init : goal.loop-other-init
 unfolding some_below
@@ -35,10 +36,10 @@ loop-other-preserved c =
     let f = shared a.slot (device_in a.words.now) (queues_of a.wanted) in (
       omega arith,
       none_next l.other f l.invariant.1
-          (⊎_elim
-          (λ w. and_yes (ap not (ne_eqb l.other a.slot w.0.taken)) ∙ sym w.1.ensures ∙ w.2.left)
-          (λ w. and_no _ (ap not (eq-eqb l.other a.slot w.left)))
-          c.if-other-slot.branch),
+          (elim c.if-other-slot.branch [
+            then-other-slot+else-shares w ↦ and_yes (ap not (ne_eqb l.other a.slot w.if-other-slot.true)) ∙ sym w.shares.ensures ∙ w.if-shares.false |
+            else-other-slot w ↦ and_no _ (ap not (eq-eqb l.other a.slot w.if-other-slot.false))
+          ]),
     )
 
 pub returns : goal.returns
