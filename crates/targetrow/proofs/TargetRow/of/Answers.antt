@@ -12,9 +12,10 @@ use Rattle.product.proofs.Laws.{row_test}
 use Rattle.targetrow.specs.TargetRows.{TargetsOf}
 use Rattle.targetrow.proofs.Laws.{targets_of}
 use Rattle.targetrow.proofs.TargetRow.of.Goals as goal
+use Rattle.targetrow.proofs.TargetRow.of.Goals.{After-and-host}
 
 -- the row that is made, by the test of the type and the mask of what is passed through
-made : (c : goal.After-and-host) (t : Bool) (m : Mask) →
+made : (c : After-and-host) (t : Bool) (m : Mask) →
     let a = c.args in
     t ≡ leb 10 ((config a.words).types a.adapter.0)
     → bits m ≡ cond t (λ i. bits c.row-configured.result i && not (bits c.row-reserved.result i)) no_bits
@@ -30,10 +31,10 @@ pub returns-then-hardware_type-lt10 : goal.returns-then-hardware_type-lt10
 returns-then-hardware_type-lt10 c =
     let type = c in
     let a = type.args in
-    made type false _ (sym (lt-leb 10 ((config a.words).types a.adapter.0) (omega (arith, type.hardware_type.ensures)))) c.empty.ensures
+    made (goal.at.returns-then-hardware_type-lt10 c).After-and-host false _ (sym (lt-leb 10 ((config a.words).types a.adapter.0) (omega (arith, type.hardware_type.ensures)))) c.empty.ensures
 
 pub returns : goal.returns
 returns c =
     let type = c in
     let a = type.args in
-    made type true _ (sym (le-leb 10 ((config a.words).types a.adapter.0) (omega (arith, type.hardware_type.ensures)))) c.minus.ensures
+    made (goal.at.returns c).After-and-host true _ (sym (le-leb 10 ((config a.words).types a.adapter.0) (omega (arith, type.hardware_type.ensures)))) c.minus.ensures
