@@ -135,13 +135,15 @@ class Function:
         self.states = {}
         for p, new in zip(names["places"], names["places_by_name"]):
             self.states[norm(p[0])] = new
+        self.places = {}
         self.goals = {norm(a): b for a, b in names["needs"]}
 
-    def steps(self, text):
+    def steps(self, text, whole=False):
         of_args = set(re.findall(rf"let ({W}) = [\w.'-]*\.args in", text))
         states = {"BEFORE", "c"} | set(re.findall(rf"let ({W}) = {W}(?:\.before)* in", text))
         text = re.sub(r"(\.before)+(?=\.)", ".BEFORE", text)
-        text = re.sub(r"(\.before)+(?![\w-])", "", text)
+        if not whole:
+            text = re.sub(r"(\.before)+(?![\w-])", "", text)
         for old in sorted(self.arms, key=lambda o: -len(o)):
             label, path = old.split(".", 1)
             text = re.sub(
@@ -319,7 +321,12 @@ class Function:
                         done.add(name)
                         break
             else:
-                ordered.append(self.types(self.steps("\n".join(lines))))
+                text = self.types(self.steps("\n".join(lines), True))
+                place = re.search(rf"^{re.escape(name or '?')} : \(c : goal\.({W})\)", text, re.M)
+                if place:
+                    self.places[name] = place.group(1)
+                    text = text.replace(f"(c : goal.{place.group(1)})", f"(c : {place.group(1)})")
+                ordered.append(text)
         dup = {}
         for new, d, b in answers:
             if d:
@@ -351,7 +358,17 @@ class Function:
                 "\n".join(h + keep + [f"use {module}.Given as goal", ""]) + "\n" + "\n\n".join(texts) + "\n"
             )
         if ordered:
+            for i, one in enumerate(ordered):
+                made = re.search(rf"^pub ({W}) : goal\.", one, re.M)
+                if made:
+                    for lemma, place in self.places.items():
+                        one = re.sub(
+                            rf"(?<![\w.'-]){re.escape(lemma)} {W}(?![\w.'-])", f"{lemma} (goal.at.{made.group(1)} c).{place}", one
+                        )
+                    ordered[i] = one
             text = "\n\n".join(ordered)
+            if self.places:
+                keep.append(f"use {module}.Goals.{{{', '.join(sorted(set(self.places.values())))}}}")
             if shared_names:
                 keep.append(f"use {module}.Invariants.{{{', '.join(shared_names)}}}")
             open(f"{self.folder}/Answers.antt", "w").write(
