@@ -1,0 +1,16 @@
+-- `unbind_domains` meets its contract. The loop's invariant: of the adapter's queues passed, those of the domains are unbound.
+use Prim.Native.Nat.{ℕ, ◌≤◌, ◌-◌, ◌*◌, ◌+◌}
+use native.Mathlib.Omega.{arith}
+use mathlib.Core.List.{List}
+use mathlib.Core.Path.{◌≡◌, refl, ap, ◌∙◌}
+use borrow.Author.Rules.{rules}
+use Rattle.unbind.specs.Gone.{with_domain, unbind_row}
+use Rattle.layout.specs.Layout.{unbind_one}
+use Rattle.unbind.proofs.Laws.{row_next}
+use Rattle.unbind.proofs.unbind_domains.Given as goal
+
+abbrev pub invariant-loop-domain : goal.invariant-loop-domain
+invariant-loop-domain l = (l.domain ≤ 256) × (l.drivers ≡ unbind_row l.initial.drivers (with_domain l.domains) l.adapter.0 l.domain)
+
+abbrev pub decreases-loop-domain : goal.decreases-loop-domain
+decreases-loop-domain l = 256 - l.domain
