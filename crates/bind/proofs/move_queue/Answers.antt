@@ -10,9 +10,10 @@ use Rattle.bind.specs.Moves.{bytes_after, Moving}
 use Rattle.bind.proofs.Laws.{answer_read, moving}
 use borrow.Author.Rules.{rules}
 use Rattle.bind.proofs.move_queue.Goals as goal
+use Rattle.bind.proofs.move_queue.Goals.{After-moved_by-m}
 
 -- a move that leaves the bytes of its answer
-done : (c : goal.After-moved_by-m) (rs : List ℕ) (m : Moved) → c.moved_by-m.result ≡ m →
+done : (c : After-moved_by-m) (rs : List ℕ) (m : Moved) → c.moved_by-m.result ≡ m →
     let a = c.args in
     rs ≡ bytes_after m (apqn a.adapter a.domain) a.drivers.now
     → Moving (apqn a.adapter a.domain) a.words.now a.drivers.now rs c.moved_by-m.result
@@ -26,16 +27,16 @@ done c rs m e b =
 
 pub returns-in-Idle : goal.returns-in-Idle
 unfolding bytes_after
-returns-in-Idle c = done c _ _ c.in-Idle.is refl
+returns-in-Idle c = done (goal.at.returns-in-Idle c).After-moved_by-m _ _ c.in-Idle.is refl
 
 pub returns-in-Released : goal.returns-in-Released
 unfolding bytes_after
-returns-in-Released c = done c _ _ c.in-Released.is c.put_driver.ensures
+returns-in-Released c = done (goal.at.returns-in-Released c).After-moved_by-m _ _ c.in-Released.is c.put_driver.ensures
 
 pub returns-in-BoundHost : goal.returns-in-BoundHost
 unfolding bytes_after
-returns-in-BoundHost c = done c _ _ c.in-BoundHost.is c.put_driver-in-BoundHost.ensures
+returns-in-BoundHost c = done (goal.at.returns-in-BoundHost c).After-moved_by-m _ _ c.in-BoundHost.is c.put_driver-in-BoundHost.ensures
 
 pub returns-in-BoundPassthrough : goal.returns-in-BoundPassthrough
 unfolding bytes_after
-returns-in-BoundPassthrough c = done c _ _ c.in-BoundPassthrough.is c.put_driver-in-BoundPassthrough.ensures
+returns-in-BoundPassthrough c = done (goal.at.returns-in-BoundPassthrough c).After-moved_by-m _ _ c.in-BoundPassthrough.is c.put_driver-in-BoundPassthrough.ensures
