@@ -173,6 +173,8 @@ class Function:
                 for alias in aliases:
                     text = re.sub(rf"(?<![\w.'-]){alias}{re.escape(old[5:])}(?![\w-])", alias + new[5:], text)
             text = re.sub(rf"{re.escape(old)}(?![\w-])", new, text)
+        # the test of an `if !x` says what x is
+        text = re.sub(rf"not-(?:true|false) _ ((?:{W}\.)+if-not-{W}\.(?:true|false))(?:-raw)?(?![\w-])", r"\1", text)
         text = text.replace(".well-formed", ".well_formed").replace(".type-inv", ".type_inv")
         return text
 
