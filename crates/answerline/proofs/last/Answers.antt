@@ -7,4 +7,4 @@ use Rattle.answerline.proofs.last.Goals as goal
 pub returns : goal.returns
 returns c =
     let a = c.add-end in
-    added_both a.ensures (added_byte a.new.0 a.result 10 (omega arith)) (omega arith)
+    added_both a.ensures (added_byte a.new.out a.result 10 (omega arith)) (omega arith)

@@ -29,9 +29,3 @@ unfolding said_line
 returns-in-Used c =
     let l = c in
     rw l.in-Used.is (put_line l.used.ensures (omega arith))
-
-pub unplaced-0 : goal.unplaced-0
-unplaced-0 c = put_none _ _ (omega arith)
-
-pub unplaced-2 : goal.unplaced-2
-unplaced-2 c = put_none _ _ (omega arith)

@@ -5,8 +5,8 @@ use Rattle.answerline.specs.Answers.{sweep_line}
 use Rattle.answerline.proofs.Laws.{digits_of}
 use Rattle.answerline.proofs.used.Goals as goal
 
-pub unplaced-4 : goal.unplaced-4
-unplaced-4 c =
+pub slice_bounds-line-end-2 : goal.slice_bounds-line-end-2
+slice_bounds-line-end-2 c =
     let w = c in
     (digits_of w.write-number.result.from w.args.n w.write-number.ensures).1
 
