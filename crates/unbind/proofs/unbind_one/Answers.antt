@@ -14,4 +14,4 @@ returns c =
     let test = c in
     let a = test.args in
     c.put_driver.ensures
-    ∙ by_test a.drivers.now a.domains a.adapter.0 a.domain.0 true (omega arith) (sym (not-false _ test.if-not-has_domain.false) ∙ test.has_domain.ensures)
+    ∙ by_test a.drivers.now a.domains a.adapter.0 a.domain.0 true (omega arith) (sym (test.if-not-has_domain.false) ∙ test.has_domain.ensures)
