@@ -1,5 +1,4 @@
 -- `passed_adapters` meets its contract. The loop's invariant: of the adapters below n those that are held back are dropped.
--- Assumes nothing.
 use Prim.Native.Nat.{ℕ, zero-le, ◌-◌, ◌%◌, ◌≤◌}
 use native.Mathlib.Nat.{mod-eq_of_lt}
 use native.Mathlib.Omega.{arith}
@@ -12,44 +11,32 @@ use Rattle.mask.specs.Bits.{Bits, bits}
 use Rattle.mask.proofs.Laws.{past_end, mask_words_lem}
 use Rattle.matrix.specs.Row.{held_back}
 use Rattle.matrix.proofs.Laws.{next_look, all_looked}
-use Rattle.matrix.proofs.passed_adapters.Statement.{statement}
-use Rattle.matrix.proofs.passed_adapters.Tie as tie
+use Rattle.matrix.proofs.passed_adapters.Goals as goal
 
-abbrev invariant-loop : tie.invariant-loop
-invariant-loop drivers domains m₀ n₀ m n = (n ≤ 256) × ((j : ℕ) → bits m j ≡ (bits m₀ j && not (ltb j n && held_back drivers (bits domains) j)))
-
-abbrev decreases-loop : tie.decreases-loop
-decreases-loop drivers domains m₀ n₀ m n = 256 - n
-
-loop-holds : tie.Need-loop-init invariant-loop decreases-loop
-loop-holds c =
+pub loop-n-init : goal.loop-n-init
+loop-n-init c =
     let a = c.args in (
       omega arith,
       λ j. sym (ap (λ (t : Bool). bits a.adapters j && not (t && held_back a.drivers.now (bits a.domains) j)) (le-ltb j 0 zero-le) ∙ and-true (bits a.adapters j)),
     )
 
-loop-again : tie.Need-loop-preserved invariant-loop decreases-loop
-loop-again c =
-    let a = c.before.before.before.args in
-    let l = c.before.before.loop in
+pub loop-n-preserved : goal.loop-n-preserved
+loop-n-preserved c =
+    let a = c.args in
+    let l = c.loop-n in
     let e : l.n % 256 ≡ l.n = mod-eq_of_lt (omega arith) in
     let held = held_back a.drivers.now (bits a.domains) in (
       omega arith,
-      λ j. ap (λ (f : Bits). f j) c.kept-adapter.ensures ∙ ap (λ (n : ℕ). bits l.m j && not (eqb j n && held j)) e
+      λ j. ap (λ (f : Bits). f j) c.kept_adapter-m.ensures ∙ ap (λ (n : ℕ). bits l.m j && not (eqb j n && held j)) e
           ∙ ap (λ (t : Bool). t && not (eqb j l.n && held j)) (l.invariant.1 j) ∙ next_look j l.n (bits a.adapters j) (held j),
     )
 
-returns : tie.Need-returns invariant-loop decreases-loop
+pub returns : goal.returns
 returns c =
-    let a = c.before.before.args in
-    let l = c.before.loop in
+    let a = c.args in
+    let l = c.loop-n in
     let held = held_back a.drivers.now (bits a.domains) in
     let last : l.n ≡ 256 = omega arith in
     fun_ext
     (λ j. l.invariant.1 j ∙ ap (λ (n : ℕ). bits a.adapters j && not (ltb j n && held j)) last
-    ∙ all_looked j (bits a.adapters j) (held j) (λ h. past_end j (omega arith) (mask_words_lem a.adapters c.before.before.well_formed.1.0) h))
-
-pub passed_adapters_spec : {M : Type 1} → statement M
-passed_adapters_spec =
-    tie.close
-    (tie.spec invariant-loop decreases-loop loop-holds (λ c. search rules) (λ c κs. search rules) (λ c. search rules) (λ c. search rules) loop-again returns)
+    ∙ all_looked j (bits a.adapters j) (held j) (λ h. past_end j (omega arith) (mask_words_lem a.adapters c.well_formed.1.0) h))
