@@ -28,7 +28,7 @@ unfolding outcome types_read
 returns-then-not-t c =
     reads_bad
     (fourth_bad c.args.adapters.now c.args.domains.now c.args.controls.now c.args.types.now (told_good c.hex_mask-a.result.good (bits c.hex_mask-a.result.mask) c.hex_mask-a.ensures (not-false _ c.if-not-a.false)) (told_good c.hex_mask-d.result.good (bits c.hex_mask-d.result.mask) c.hex_mask-d.ensures (not-false _ c.if-not-d.false)) (told_good c.hex_mask-c.result.good (bits c.hex_mask-c.result.mask) c.hex_mask-c.ensures (not-false _ c.if-not-c.false))
-    (told_bad c.types-t.result.good c.types-t.result.types c.types-t.ensures.0 (not-true _ c.if-not-t.true)))
+    (told_bad c.types-t.result.good c.types-t.result.types c.types-t.ensures.result_value (not-true _ c.if-not-t.true)))
     c.bad-then-not-t.ensures
 
 pub returns : goal.returns
@@ -38,5 +38,5 @@ returns c =
     (told_good c.hex_mask-a.result.good (bits c.hex_mask-a.result.mask) c.hex_mask-a.ensures (not-false _ c.if-not-a.false))
     (told_good c.hex_mask-d.result.good (bits c.hex_mask-d.result.mask) c.hex_mask-d.ensures (not-false _ c.if-not-d.false))
     (told_good c.hex_mask-c.result.good (bits c.hex_mask-c.result.mask) c.hex_mask-c.ensures (not-false _ c.if-not-c.false))
-    (told_good c.types-t.result.good c.types-t.result.types c.types-t.ensures.0 (not-false _ c.if-not-t.false))
+    (told_good c.types-t.result.good c.types-t.result.types c.types-t.ensures.result_value (not-false _ c.if-not-t.false))
     (mask_words_lem _ c.hex_mask-a.type_inv.1.1.1.0) (mask_words_lem _ c.hex_mask-d.type_inv.1.1.1.0) (mask_words_lem _ c.hex_mask-c.type_inv.1.1.1.0)

@@ -13,7 +13,7 @@ pub returns-then-starts_hex : goal.returns-then-starts_hex
 unfolding hex_text
 returns-then-starts_hex c =
     let w = c.args.word.now in
-    c.parse.ensures.0 ∙ ap (mask_text w) c.empty.ensures
+    c.parse.ensures.result_value ∙ ap (mask_text w) c.empty.ensures
     ∙ sym (ap (λ (b : Bool). cond b (mask_text w no_bits) (refused Einval)) (sym c.starts_hex.ensures ∙ c.if-starts_hex.true))
 
 pub returns : goal.returns
