@@ -146,6 +146,7 @@ class Function:
             text = re.sub(r"(\.before)+(?![\w-])", "", text)
         for old in sorted(self.arms, key=lambda o: -len(o)):
             label, path = old.split(".", 1)
+            self.arms[old] = self.arms[old].replace("-raw", "")
             text = re.sub(
                 rf"\.{label.replace('_', '[-_]')}\.{re.escape(path)}(?![\w-])", "." + self.arms[old], text
             )
