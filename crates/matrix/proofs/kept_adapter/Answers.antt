@@ -14,14 +14,14 @@ returns-then-not-row_passed c =
     let p = c in
     let a = p.args in
     let held = held_back a.drivers.now (bits a.domains) in
-    let back : held a.adapter.0 ≡ true = not-false _ (sym p.row_passed.ensures ∙ not-true _ c.if-not-row_passed.true-raw) in
+    let back : held a.adapter.0 ≡ true = not-false _ (sym p.row_passed.ensures ∙ c.if-not-row_passed.true) in
     c.without.ensures ∙ fun_ext (dropped (bits a.mask) held a.adapter.0 back)
 
 pub returns-else-not-row_passed : goal.returns-else-not-row_passed
 returns-else-not-row_passed c =
     let a = c.args in
     let held = held_back a.drivers.now (bits a.domains) in
-    let none : held a.adapter.0 ≡ false = not-true _ (sym c.row_passed.ensures ∙ not-false _ c.if-not-row_passed.false) in
+    let none : held a.adapter.0 ≡ false = not-true _ (sym c.row_passed.ensures ∙ c.if-not-row_passed.false) in
     fun_ext
     (not_there (bits a.mask) held a.adapter.0
     (ap (λ (t : Bool). bits a.mask a.adapter.0 && t) none ∙ and-false (bits a.mask a.adapter.0)))

@@ -14,6 +14,7 @@ use Rattle.rules.specs.Queues.{passed}
 use Rattle.matrix.specs.Row.{missing, held_back}
 use Rattle.matrix.proofs.Laws.{missing_at}
 use Rattle.matrix.proofs.row_passed.Goals as goal
+use Rattle.matrix.proofs.row_passed.Goals.{then-has_domain+else-not-passed, else-has_domain}
 
 pub loop-n-init : goal.loop-n-init
 loop-n-init c = (omega arith, λ k h. absurd (omega arith))
@@ -25,8 +26,8 @@ returns-then-not-passed c =
     let a = h.args in
     let d = h.loop-n.n % 256 in
     let lost : missing a.drivers.now (bits a.domains) a.adapter.0 d ≡ true = missing_at a.drivers.now (bits a.domains) a.adapter.0 d true false
-    (sym h.has_domain.ensures ∙ c.if-has_domain.true-raw)
-    (sym (c.passed.ensures ∙ ap passed c.driver.ensures) ∙ not-true _ c.if-not-passed.true) in
+    (sym h.has_domain.ensures ∙ c.if-has_domain.true)
+    (sym (c.passed.ensures ∙ ap passed c.driver.ensures) ∙ c.if-not-passed.true) in
     ap not (sym (some_intro 256 (missing a.drivers.now (bits a.domains) a.adapter.0) d (omega arith) lost))
 
 pub loop-n-preserved : goal.loop-n-preserved
@@ -37,10 +38,10 @@ loop-n-preserved c =
     let e : l.n % 256 ≡ l.n = mod-eq_of_lt (omega arith) in
     let at = missing_at a.drivers.now (bits a.domains) a.adapter.0 (l.n % 256) in
     let none : missing a.drivers.now (bits a.domains) a.adapter.0 (l.n % 256) ≡ false =
-    ⊎_elim
-    (λ w. at true true (sym h.has_domain.ensures ∙ w.0.taken) (sym (w.2.ensures ∙ ap passed w.1.ensures) ∙ not-false _ w.3.left))
-    (λ w. at false _ (sym h.has_domain.ensures ∙ w.left) refl)
-    c.if-has_domain.branch in
+    elim c.if-has_domain.branch [
+      then-has_domain+else-not-passed w ↦ at true true (sym h.has_domain.ensures ∙ w.if-has_domain.true) (sym (w.passed.ensures ∙ ap passed w.driver.ensures) ∙ w.if-not-passed.false) |
+      else-has_domain w ↦ at false _ (sym h.has_domain.ensures ∙ w.if-has_domain.false) refl
+    ] in
     (search rules, below_more _ _ l.invariant.1 (rw e at none))
 
 pub returns : goal.returns
