@@ -11,8 +11,8 @@ use Rattle.rules.specs.declared.Answer.{Answer}
 use Rattle.rules.specs.declared.Answer.TheVariants.{Done, Refused}
 use Rattle.rules.specs.State.{Devices, queues}
 use Rattle.rules.specs.Commands.{assigned}
-use Rattle.layout.specs.Layout.{mask_at, put_four, words_of, apmask_at, aqmask_at}
-use Rattle.layout.specs.Lent.{devices, LentMut}
+use Rattle.layout.specs.Layout.{mask_at, put_four, words_of, apmask_at, aqmask_at, device_in}
+use Rattle.layout.specs.Lent.{LentMut}
 
 -- the mask that a text was read as; bad text leaves the old one
 unfoldable pub mask_or : Bits → Outcome Bits → Bits
@@ -45,4 +45,4 @@ left k m (Refused e) ws = ws
 -- setting the mask at word k to m, by which some queues are reserved
 abbrev pub Sets : ℕ → Bool → Mask → Bits → LentMut → LentMut → Answer → Type 0
 Sets k good m reserved words words' r =
-    (r ≡ admitted good reserved (devices words)) × (words'.now ≡ left k m r words.now)
+    (r ≡ admitted good reserved (device_in words.now)) × (words'.now ≡ left k m r words.now)

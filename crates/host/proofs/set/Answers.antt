@@ -29,7 +29,7 @@ returns-then-adapters c =
     let a = first.args in (
       by_answers a.good (queues_of a.reserved) (device_in a.words.now) true false (sym (first.if-not-good.false))
           (sym second.if-taken.false ∙ second.taken.ensures),
-      c.put_apmask.ensures ∙ ap (λ (b : Bool). put_four a.words.now (cond b apmask_at aqmask_at) a.mask.words) (sym c.if-adapters.true-raw),
+      c.put_apmask.ensures ∙ ap (λ (b : Bool). put_four a.words.now (cond b apmask_at aqmask_at) a.mask.words) (sym c.if-adapters.true),
     )
 
 pub returns : goal.returns
@@ -39,5 +39,5 @@ returns c =
     let a = first.args in (
       by_answers a.good (queues_of a.reserved) (device_in a.words.now) true false (sym (first.if-not-good.false))
           (sym second.if-taken.false ∙ second.taken.ensures),
-      c.put_aqmask.ensures ∙ ap (λ (b : Bool). put_four a.words.now (cond b apmask_at aqmask_at) a.mask.words) (sym c.if-adapters.false-raw),
+      c.put_aqmask.ensures ∙ ap (λ (b : Bool). put_four a.words.now (cond b apmask_at aqmask_at) a.mask.words) (sym c.if-adapters.false),
     )

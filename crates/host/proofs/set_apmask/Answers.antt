@@ -10,5 +10,5 @@ returns c =
     let was = got in
     let held = was in
     let a = held.args in
-    set_apmask_lem a.text.now a.words.now held.hold_words.ensures was.apmask-old.result other.aqmask.result got.parse-new.result got.parse-new.ensures.0
+    set_apmask_lem a.text.now a.words.now held.hold_words.ensures was.apmask-old.result other.aqmask.result got.parse-new.result got.parse-new.ensures.result_value
     got.parse-new.type_inv _ _ was.apmask-old.ensures other.aqmask.ensures c.set.ensures.0 c.set.ensures.1
