@@ -1,0 +1,25 @@
+-- `admitted` meets its contract: what the two tests find, in their order.
+use mathlib.Core.Bool.{true, false}
+use mathlib.Core.Path.{refl}
+use borrow.Author.Rules.{rules}
+use Rattle.product.specs.Meet.{queues_of}
+use Rattle.admit.proofs.Laws.{found, by_tests}
+use Rattle.admit.proofs.admitted.Goals as goal
+
+-- the first test is searched for, so that another order of them fails as a fact
+pub returns-then-reserved : goal.returns-then-reserved
+returns-then-reserved c = λ qs t.
+    let a = c.args in
+    by_tests (queues_of a.wanted) a.slot a.words.now qs t true _ (search found) refl
+
+pub returns-then-taken : goal.returns-then-taken
+returns-then-taken c = λ qs t.
+    let a = c.args in
+    by_tests (queues_of a.wanted) a.slot a.words.now qs t false true (found c.if-reserved.false c.reserved.ensures)
+    (found c.if-taken.true c.taken.ensures)
+
+pub returns : goal.returns
+returns c = λ qs t.
+    let a = c.args in
+    by_tests (queues_of a.wanted) a.slot a.words.now qs t false false (found c.if-reserved.false c.reserved.ensures)
+    (found c.if-taken.false c.taken.ensures)
