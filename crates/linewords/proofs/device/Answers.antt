@@ -11,9 +11,9 @@ pub returns-then-read : goal.returns-then-read
 unfolding id_read
 returns-then-read c = λ line.
     asked_command line c.args.op Adapter c.id-read.result.id 0 c.requires c.command.ensures
-    ∙ sym (when_good_lem _ (told_good c.id-read.result.good c.id-read.result.id c.id-read.ensures.0 c.if-read.true))
+    ∙ sym (when_good_lem _ (told_good c.id-read.result.good c.id-read.result.id c.id-read.ensures.result_value c.if-read.true))
 
 pub returns : goal.returns
 unfolding id_read
 returns c = λ line.
-    asked_bad line c.only.ensures ∙ sym (when_bad _ (told_bad c.id-read.result.good c.id-read.result.id c.id-read.ensures.0 c.if-read.false))
+    asked_bad line c.only.ensures ∙ sym (when_bad _ (told_bad c.id-read.result.good c.id-read.result.id c.id-read.ensures.result_value c.if-read.false))

@@ -28,4 +28,4 @@ unfolding config_read ascii
 returns c = λ line h.
     asked_bad line c.only-2.ensures
     ∙ sym (first_yes _ (sym c.is.ensures ∙ c.if-not-is.false)
-    ∙ when_bad _ (told_bad c.read.result.good c.read.result.configuration c.read.ensures.is c.if-read.false-raw))
+    ∙ when_bad _ (told_bad c.read.result.good c.read.result.configuration c.read.ensures.is c.if-read.false))

@@ -14,11 +14,11 @@ unfolding outcome
 returns-then-read c = λ line.
     asked_command line c.args.op Adapter no_id c.args.at c.requires c.at_text.ensures
     ∙ sym (when_good_lem _ (told_good c.parse-read.result.good (bits c.parse-read.result.mask)
-    (c.parse-read.ensures.0 ∙ ap (mask_text c.args.x.now) c.empty.ensures) c.if-read.true))
+    (c.parse-read.ensures.result_value ∙ ap (mask_text c.args.x.now) c.empty.ensures) c.if-read.true))
 
 pub returns : goal.returns
 unfolding outcome
 returns c = λ line.
     asked_bad line c.only.ensures
     ∙ sym (when_bad _ (told_bad c.parse-read.result.good (bits c.parse-read.result.mask)
-    (c.parse-read.ensures.0 ∙ ap (mask_text c.args.x.now) c.empty.ensures) c.if-read.false))
+    (c.parse-read.ensures.result_value ∙ ap (mask_text c.args.x.now) c.empty.ensures) c.if-read.false))
