@@ -1,5 +1,4 @@
 -- `put_masks` meets its contract: three pastes fill the 96 bytes.
--- Assumes nothing.
 use Prim.Native.Nat.{ℕ}
 use native.Mathlib.Omega.{arith}
 use mathlib.Core.List.{List}
@@ -10,22 +9,17 @@ use Rattle.mask.specs.Bits.{bits}
 use Rattle.matrixbytes.specs.Matrices.{mask_bytes}
 use Rattle.matrixbytes.proofs.Laws.{mask_long, three_pasted}
 use borrow.Author.Rules.{rules}
-use Rattle.matrixbytes.proofs.put_masks.Statement.{statement}
-use Rattle.matrixbytes.proofs.put_masks.Tie as tie
+use Rattle.matrixbytes.proofs.put_masks.Goals as goal
 
-returns : tie.Need-returns
+pub returns : goal.returns
 returns c =
-    let a = c.before.before.before.before.before.before.before.before.before.args in
+    let a = c.args in
     let adapters = mask_bytes (bits a.masks.adapters) in
     let domains = mask_bytes (bits a.masks.domains) in
     let controls = mask_bytes (bits a.masks.controls) in
     let long : length a.out.now ≡ 96 = omega arith in
-    let first = c.before.before.before.before.put-mask.ensures in
-    let second = c.before.before.put-mask2.ensures ∙ ap (λ (l : List ℕ). paste l 32 domains 32) first in
-    c.put-mask3.ensures
+    let first = c.put_mask.ensures in
+    let second = c.put_mask-2.ensures ∙ ap (λ (l : List ℕ). paste l 32 domains 32) first in
+    c.put_mask-3.ensures
     ∙ ap (λ (l : List ℕ). paste l 64 controls 32) second
     ∙ three_pasted a.out.now adapters domains controls 32 (mask_long _) (mask_long _) (mask_long _) long
-
-pub put_masks_spec : {M : Type 1} → statement M
-put_masks_spec =
-    tie.close (tie.spec (λ c κs. search rules) (λ c κs. search rules) (λ c κs. search rules) returns)
