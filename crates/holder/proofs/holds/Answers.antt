@@ -1,0 +1,7 @@
+-- `holds` meets its contract.
+use borrow.Author.Rules.{rules}
+use Rattle.product.proofs.Laws.{has_test}
+use Rattle.holder.proofs.holds.Goals as goal
+
+pub returns : goal.returns
+returns c = has_test _ c.has.ensures c.assigned-assigned.ensures.members
