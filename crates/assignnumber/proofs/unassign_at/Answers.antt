@@ -1,5 +1,4 @@
 -- `unassign_at` meets its contract.
--- Assumes nothing.
 use mathlib.Core.Path.{refl, ap, ◌∙◌}
 use borrow.Author.Rules.{rules}
 use Rattle.mask.specs.Bits.{excluded}
@@ -9,25 +8,20 @@ use Rattle.layout.specs.Layout.{device_in, state_in}
 use Rattle.layout.proofs.Laws.{done_carried}
 use Rattle.assignnumber.specs.Numbers.{unassigned_at}
 use Rattle.assignnumber.proofs.Laws.{put_changed, read_changed}
-use Rattle.assignnumber.proofs.unassign_at.Statement.{statement}
-use Rattle.assignnumber.proofs.unassign_at.Tie as tie
+use Rattle.assignnumber.proofs.unassign_at.Goals as goal
 
-returns : tie.Need-returns
+pub returns : goal.returns
 unfolding state_in
 returns c =
-    let s = c.before.before.before.before.before.before.before in
+    let s = c in
     let a = s.args in
     let ws = a.words.now in
-    let m = c.before.without.result in
-    let words = mask_words_lem m c.before.without.type_inv in
-    let made = c.before.without.ensures ∙ ap (excluded a.number) c.before.before.before.numbers.ensures in
-    let held = c.before.before.before.before.before.hold-words.ensures in
+    let m = c.without.result in
+    let words = mask_words_lem m c.without.type_inv in
+    let made = c.without.ensures ∙ ap (excluded a.number) c.numbers-m.ensures in
+    let held = c.hold_words.ensures in
     done_carried (unassign_at a.kind a.number a.slot) (unassigned_at a.kind a.slot a.number) ws
     (λ qs. with_device a.slot (with_numbers a.kind (excluded a.number (numbers_of a.kind (device_in ws a.slot))) (device_in ws a.slot)) (state_in ws qs))
-    (c.put-numbers.ensures ∙ put_changed ws a.kind a.slot held s.requires (excluded a.number) m words made)
+    (c.put_numbers.ensures ∙ put_changed ws a.kind a.slot held s.requires (excluded a.number) m words made)
     (λ qs. refl)
     (read_changed ws a.kind a.slot held s.requires (excluded a.number) m words made)
-
-pub unassign_at_spec : {M : Type 1} → statement M
-unassign_at_spec =
-    tie.close (tie.spec (λ c κs. search rules) (λ c κs. search rules) (λ c κs. search rules) (λ c κs. search rules) returns)
