@@ -1,0 +1,9 @@
+-- `apmask` meets its contract.
+use mathlib.Core.Path.{ap, ◌∙◌}
+use borrow.Author.Rules.{rules}
+use Rattle.matrixbytes.specs.Matrices.{mask_bytes}
+use Rattle.hostbytes.proofs.apmask.Goals as goal
+
+pub returns : goal.returns
+unfolding mask_bytes
+returns c = c.to_bytes.ensures ∙ ap mask_bytes c.apmask.ensures
