@@ -13,11 +13,12 @@ use Rattle.layout.specs.Layout.{state_in}
 use Rattle.sweep.specs.Sweeps.{sweep_bytes}
 use Rattle.sweep.proofs.Laws.{Underway, sweep_starts, goes_on, stops, swept_by}
 use Rattle.sweep.proofs.sweep.Goals as goal
+use Rattle.sweep.proofs.sweep.Goals.{then-budget-lt-MOST_MOVES, else-budget-lt-MOST_MOVES}
 
 pub loop-adapter-init : goal.loop-adapter-init
 loop-adapter-init c =
     let a = c.args in
-    (search rules, ⊎_elim (λ w. omega arith) (λ w. omega arith) c.if-budget-lt-MOST_MOVES.branch, sweep_starts a.words.now a.drivers.now 0 c.if-budget-lt-MOST_MOVES.most)
+    (search rules, elim c.if-budget-lt-MOST_MOVES.branch [ then-budget-lt-MOST_MOVES w ↦ omega arith | else-budget-lt-MOST_MOVES w ↦ omega arith ], sweep_starts a.words.now a.drivers.now 0 c.if-budget-lt-MOST_MOVES.most)
 
 pub returns-then-rest : goal.returns-then-rest
 returns-then-rest c =
@@ -44,7 +45,7 @@ loop-adapter-preserved c =
     let e : l.adapter * 256 + 256 ≡ (l.adapter + 1) * 256 = omega arith in (
       search rules,
       l.invariant.1,
-      subst (λ (i : ℕ). Underway a.words.now a.drivers.now 0 z.if-budget-lt-MOST_MOVES.most i c.sweep_row-rest.result.left c.sweep_row-rest.new.1.0) e
+      subst (λ (i : ℕ). Underway a.words.now a.drivers.now 0 z.if-budget-lt-MOST_MOVES.most i c.sweep_row-rest.result.left c.sweep_row-rest.new.drivers) e
           (goes_on l.invariant.2 (l.adapter * 256) 256 (sym (zero-add (l.adapter * 256))) _ _ row.drivers (omega arith)),
     )
 
