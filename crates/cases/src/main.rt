@@ -2,50 +2,79 @@
 // with a model in Python that is written from the rules (docs/RULES.md) and shares no code with the library.
 #![tactic(auto)]
 
+ghost use Rattle.std.specs.Prelude.{◌≤◌, length, IfOk};
+
 use guest::Shown;
 use layout::{Drivers, WORDS, Words};
 use listing::Listed;
 use mask::{Apid, Apqi, Mask};
 use rules::{Answer, Configuration, Driver, Id, Kind, Matrix, Moved, QUEUES};
+use std::io;
+use std::io::Read;
 
 // A row is two letters, for a group of functions and for one of them, and the words that are printed before its answer.
 // The arguments are among these words. A row of the letters ## only prints its words. A semicolon ends a row.
-fn main() {
+fn main(rt: HostRuntime) -> io::Result<()> {
     let mut words = [0u64; WORDS];
     let mut drivers = [0u8; QUEUES];
     let mut rows = [0u8; 8192];
-    let got = io::read_full(0, &mut rows);
-    each(&mut words, &mut drivers, &rows[..got]);
+    let got = read_full(&mut rt.reader(), &mut rows)?;
+    each(&rt, &mut words, &mut drivers, &rows[..got])
 }
 
-fn each(words: &mut Words, drivers: &mut Drivers, rows: &[u8]) {
+// Reads until the buffer is full or the input ends. Answers how many bytes there are.
+fn read_full(input: &mut impl Read, buf: &mut [u8]) -> io::Result<usize>
+    ensures { IfOk result (λ n. n ≤ length buf.new) }
+{
+    let mut done = 0;
+    while done < buf.len() {
+        let n = input.read(&mut buf[done..])?;
+        if n == 0 {
+            break;
+        }
+        done += n;
+    }
+    Ok(done)
+}
+
+fn each(rt: &impl Print, words: &mut Words, drivers: &mut Drivers, rows: &[u8]) -> io::Result<()> {
     for k in 0..256usize {
-        row(words, drivers, parts::part(rows, b';', k));
+        row(rt, words, drivers, parts::part(rows, b';', k))?;
     }
+    Ok(())
 }
 
-fn row(words: &mut Words, drivers: &mut Drivers, row: &[u8]) {
+fn row(rt: &impl Print, words: &mut Words, drivers: &mut Drivers, row: &[u8]) -> io::Result<()> {
     if 3 <= row.len() {
-        print::escaped(&row[3..]);
-        step(words, drivers, row[0], row[1], &row[3..]);
+        print::escaped(rt, &row[3..])?;
+        step(rt, words, drivers, row[0], row[1], &row[3..])?;
     }
+    Ok(())
 }
 
-fn step(words: &mut Words, drivers: &mut Drivers, group: u8, letter: u8, s: &[u8]) {
+fn step(
+    rt: &impl Print,
+    words: &mut Words,
+    drivers: &mut Drivers,
+    group: u8,
+    letter: u8,
+    s: &[u8],
+) -> io::Result<()> {
     match group {
-        b'd' => answer(device(words, letter, id(s))),
-        b'a' => answer(assign(words, letter, s)),
-        b'h' => answer(host(words, drivers, letter, s)),
-        b'q' => queues(words, drivers, letter, s),
-        b'm' => shows(words, drivers, letter, s),
-        _ => end(b"\n"),
+        b'd' => answer(rt, device(words, letter, id(s))),
+        b'a' => answer(rt, assign(words, letter, s)),
+        b'h' => answer(rt, host(words, drivers, letter, s)),
+        b'q' => queues(rt, words, drivers, letter, s),
+        b'm' => shows(rt, words, drivers, letter, s),
+        _ => end(rt, b"\n"),
     }
 }
 
 // ---- commands
 
-fn answer(a: Answer) {
-    print::answer(b": ok\n", b": ", a);
+fn answer(rt: &impl Print, a: Answer) -> io::Result<()> {
+    print::answer(rt, b": ok\n", b": ", a)?;
+    Ok(())
 }
 
 fn device(words: &mut Words, letter: u8, id: Id) -> Answer {
@@ -106,54 +135,76 @@ fn bits(s: &[u8], k: usize) -> Mask {
 
 // ---- queues
 
-fn queues(words: &Words, drivers: &mut Drivers, letter: u8, s: &[u8]) {
+fn queues(
+    rt: &impl Print,
+    words: &Words,
+    drivers: &mut Drivers,
+    letter: u8,
+    s: &[u8],
+) -> io::Result<()> {
     let n = value(s, 1);
     let apid = Apid((n % 256) as u8);
     let apqi = Apqi(byte(s, 2));
     match letter {
-        b'm' => moved(bind::move_queue(words, drivers, apid, apqi)),
-        b't' => target(target::target(words, apid, apqi)),
-        b's' => sweep(sweep::sweep(words, drivers, (n % 4294967296) as u32)),
-        _ => number(due::remaining(words, drivers) as u64),
+        b'm' => moved(rt, bind::move_queue(words, drivers, apid, apqi)),
+        b't' => target(rt, target::target(words, apid, apqi)),
+        b's' => sweep(rt, sweep::sweep(words, drivers, (n % 4294967296) as u32)),
+        _ => number(rt, due::remaining(words, drivers) as u64),
     }
 }
 
-fn moved(m: Moved) {
-    named(rules::moved_number(m) as usize);
+fn moved(rt: &impl Print, m: Moved) -> io::Result<()> {
+    named(rt, rules::moved_number(m) as usize)
 }
 
-fn target(d: Driver) {
-    named(match d {
-        Driver::Host => 2,
-        Driver::Passthrough => 3,
-        Driver::Unbound => 4,
-    });
+fn target(rt: &impl Print, d: Driver) -> io::Result<()> {
+    named(
+        rt,
+        match d {
+            Driver::Host => 2,
+            Driver::Passthrough => 3,
+            Driver::Unbound => 4,
+        },
+    )
 }
 
 // The first four in the order of `rules::moved_number`.
-fn named(k: usize) {
-    print::text(b": ");
-    print::text(parts::part(b"idle released host passthrough none", b' ', k));
-    print::text(b"\n");
+fn named(rt: &impl Print, k: usize) -> io::Result<()> {
+    print::text(rt, b": ")?;
+    print::text(
+        rt,
+        parts::part(b"idle released host passthrough none", b' ', k),
+    )?;
+    print::text(rt, b"\n")?;
+    Ok(())
 }
 
-fn sweep(r: sweep::Swept) {
-    number(r.used as u64);
-    print::text(b"moves remain");
-    yes(r.more);
+fn sweep(rt: &impl Print, r: sweep::Swept) -> io::Result<()> {
+    number(rt, r.used as u64)?;
+    print::text(rt, b"moves remain")?;
+    yes(rt, r.more)
 }
 
 // ---- devices and their matrices
 
-fn shows(words: &Words, drivers: &Drivers, letter: u8, s: &[u8]) {
+fn shows(
+    rt: &impl Print,
+    words: &Words,
+    drivers: &Drivers,
+    letter: u8,
+    s: &[u8],
+) -> io::Result<()> {
     let id = id(s);
     let matrix = matrix(s);
     match letter {
-        b'i' => number(lookup::find(words, id) as u64),
-        b'y' => yes(guest::usable(words, drivers, id, Apid(byte(s, 2)), Apqi(byte(s, 3)))),
-        b'k' => masks(guest::masks(words, drivers, id, matrix)),
-        b'j' => lines(guest::masks(words, drivers, id, matrix)),
-        _ => list(words, drivers, id, matrix, s),
+        b'i' => number(rt, lookup::find(words, id) as u64),
+        b'y' => yes(
+            rt,
+            guest::usable(words, drivers, id, Apid(byte(s, 2)), Apqi(byte(s, 3))),
+        ),
+        b'k' => masks(rt, guest::masks(words, drivers, id, matrix)),
+        b'j' => lines(rt, guest::masks(words, drivers, id, matrix)),
+        _ => list(rt, words, drivers, id, matrix, s),
     }
 }
 
@@ -164,59 +215,75 @@ fn matrix(s: &[u8]) -> Matrix {
     }
 }
 
-fn masks(r: Shown) {
+fn masks(rt: &impl Print, r: Shown) -> io::Result<()> {
     let a = r.answer;
     let m = r.masks;
-    answer(a);
+    answer(rt, a)?;
     if let Answer::Done = a {
-        print::masks(m);
+        print::masks(rt, m)?;
     }
+    Ok(())
 }
 
-fn lines(r: Shown) {
+fn lines(rt: &impl Print, r: Shown) -> io::Result<()> {
     let m = r.masks;
-    number(listing::lines(m) as u64);
+    number(rt, listing::lines(m) as u64)
 }
 
-fn list(words: &Words, drivers: &Drivers, id: Id, matrix: Matrix, s: &[u8]) {
+fn list(
+    rt: &impl Print,
+    words: &Words,
+    drivers: &Drivers,
+    id: Id,
+    matrix: Matrix,
+    s: &[u8],
+) -> io::Result<()> {
     let mut buf = [b'#'; 32];
     let place = value(s, 3) as usize;
     let room = value(s, 4) as usize;
     if room < 33 {
-        listed(listing::list(words, drivers, id, matrix, place, &mut buf[..room]));
-        whole(buf);
+        listed(
+            rt,
+            listing::list(words, drivers, id, matrix, place, &mut buf[..room]),
+        )?;
+        whole(rt, buf)?;
     }
+    Ok(())
 }
 
-fn whole(buf: [u8; 32]) {
-    print::text(&buf);
-    print::text(b"\n");
+fn whole(rt: &impl Print, buf: [u8; 32]) -> io::Result<()> {
+    print::text(rt, &buf)?;
+    print::text(rt, b"\n")?;
+    Ok(())
 }
 
-fn listed(r: Listed) {
+fn listed(rt: &impl Print, r: Listed) -> io::Result<()> {
     let a = r.answer;
-    answer(a);
+    answer(rt, a)?;
     if let Answer::Done = a {
-        print::decimal(r.written as u64);
-        print::number(b" ", r.next as u64);
+        print::decimal(rt, r.written as u64)?;
+        print::number(rt, b" ", r.next as u64)?;
     }
+    Ok(())
 }
 
 // ---- ends of lines
 
-fn end(s: &[u8]) {
-    print::text(s);
+fn end(rt: &impl Print, s: &[u8]) -> io::Result<()> {
+    print::text(rt, s)?;
+    Ok(())
 }
 
-fn number(n: u64) {
-    print::number(b": ", n);
+fn number(rt: &impl Print, n: u64) -> io::Result<()> {
+    print::number(rt, b": ", n)?;
+    Ok(())
 }
 
-fn yes(b: bool) {
+fn yes(rt: &impl Print, b: bool) -> io::Result<()> {
     if b {
-        end(b": yes\n");
+        end(rt, b": yes\n")
     } else {
-        end(b": no\n");
+        end(rt, b": no\n")
     }
 }
 

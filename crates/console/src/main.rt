@@ -1,6 +1,6 @@
 // The console: commands from standard input, one a line, and one answer line each.
 #![tactic(auto)]
 
-fn main() {
-    session::play();
+fn main(rt: HostRuntime) {
+    session::play(&rt);
 }

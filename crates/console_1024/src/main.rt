@@ -1,6 +1,6 @@
 // The console, on an input whose last line has 1024 bytes and no newline.
 #![tactic(auto)]
 
-fn main() {
-    session::play();
+fn main(rt: HostRuntime) {
+    session::play(&rt);
 }

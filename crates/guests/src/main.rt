@@ -6,12 +6,14 @@ use guest::Shown;
 use layout::{Drivers, WORDS, Words};
 use mask::Mask;
 use rules::{Answer, Configuration, Id, Kind, Matrix, QUEUES};
+use std::io;
 use sweep::Swept;
 
-fn main() {
+fn main(rt: HostRuntime) -> io::Result<()> {
     let mut words = [0u64; WORDS];
     let mut drivers = [0u8; QUEUES];
     each(
+        &rt,
         &mut words,
         &mut drivers,
         b"0f fresh record;\
@@ -42,35 +44,51 @@ fn main() {
         9c create rehearsal;\
         9a adapter 5;\
         9d domain 4;",
-    );
+    )
 }
 
 // A row is a guest's number, a letter for what is done, and the words that are printed; the second of them is the number or
 // the mask. The rehearsal guest is number 9, and what it asks for at the end is guest 1's.
-fn each(words: &mut Words, drivers: &mut Drivers, rows: &[u8]) {
+fn each(rt: &impl Print, words: &mut Words, drivers: &mut Drivers, rows: &[u8]) -> io::Result<()> {
     for k in 0..32usize {
-        row(words, drivers, parts::part(rows, b';', k));
+        row(rt, words, drivers, parts::part(rows, b';', k))?;
     }
+    Ok(())
 }
 
-fn row(words: &mut Words, drivers: &mut Drivers, row: &[u8]) {
+fn row(rt: &impl Print, words: &mut Words, drivers: &mut Drivers, row: &[u8]) -> io::Result<()> {
     if 3 <= row.len() {
-        print::text(&row[3..]);
-        step(words, drivers, row[0], row[1], parts::part(row, b' ', 2));
+        print::text(rt, &row[3..])?;
+        step(
+            rt,
+            words,
+            drivers,
+            row[0],
+            row[1],
+            parts::part(row, b' ', 2),
+        )?;
     }
+    Ok(())
 }
 
-fn step(words: &mut Words, drivers: &mut Drivers, who: u8, what: u8, text: &[u8]) {
+fn step(
+    rt: &impl Print,
+    words: &mut Words,
+    drivers: &mut Drivers,
+    who: u8,
+    what: u8,
+    text: &[u8],
+) -> io::Result<()> {
     let id = Id {
         hi: 0,
         lo: (who % 16) as u64,
     };
     match what {
-        b'm' => list(words, drivers, id),
-        b'g' => masks(guest::masks(words, drivers, id, Matrix::Guest)),
-        b's' => moves(sweep::sweep(words, drivers, sweep::MOST_MOVES)),
-        b'f' | b'p' | b'q' | b'k' => answer(host(words, drivers, what, text)),
-        _ => answer(device(words, what, id, text)),
+        b'm' => list(rt, words, drivers, id),
+        b'g' => masks(rt, guest::masks(words, drivers, id, Matrix::Guest)),
+        b's' => moves(rt, sweep::sweep(words, drivers, sweep::MOST_MOVES)),
+        b'f' | b'p' | b'q' | b'k' => answer(rt, host(words, drivers, what, text)),
+        _ => answer(rt, device(words, what, id, text)),
     }
 }
 
@@ -110,25 +128,29 @@ fn kind(what: u8) -> Kind {
     }
 }
 
-fn answer(a: Answer) {
-    print::answer(b": ok\n", b": refused ", a);
+fn answer(rt: &impl Print, a: Answer) -> io::Result<()> {
+    print::answer(rt, b": ok\n", b": refused ", a)?;
+    Ok(())
 }
 
-fn moves(r: Swept) {
-    print::text(b": ");
-    print::decimal(r.used as u64);
-    print::text(b" moves\n");
+fn moves(rt: &impl Print, r: Swept) -> io::Result<()> {
+    print::text(rt, b": ")?;
+    print::decimal(rt, r.used as u64)?;
+    print::text(rt, b" moves\n")?;
+    Ok(())
 }
 
-fn list(words: &Words, drivers: &Drivers, id: Id) {
+fn list(rt: &impl Print, words: &Words, drivers: &Drivers, id: Id) -> io::Result<()> {
     let mut buf = [0u8; 64];
     let r = listing::list(words, drivers, id, Matrix::Guest, 0, &mut buf);
-    print::text(b"\n");
-    print::first(&buf, r.written);
+    print::text(rt, b"\n")?;
+    print::first(rt, &buf, r.written)?;
+    Ok(())
 }
 
-fn masks(r: Shown) {
+fn masks(rt: &impl Print, r: Shown) -> io::Result<()> {
     let m = r.masks;
-    print::text(b"\n");
-    print::masks(m);
+    print::text(rt, b"\n")?;
+    print::masks(rt, m)?;
+    Ok(())
 }

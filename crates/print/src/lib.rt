@@ -1,153 +1,154 @@
 // What the programs print with. All of it goes to standard output, and no contract can say what arrives there: those
-// here say how much was handed over, or what it was made from.
+// here say how much was handed over, or what it was made from. An error is of the write that failed, after which nothing
+// more is written.
 //
-// Rests on errno, mask, masks and rules, and on the kit's io.
+// Rests on errno, mask, masks and rules.
 #![tactic(auto)]
 
-ghost use Rattle.std.specs.Prelude.{◌≡◌, ◌+◌, min, length};
-ghost use Rattle.io.specs.Digits.{IsDigitCount};
+ghost use Rattle.std.specs.Prelude.{◌≡◌, ◌+◌, min, length, IfOk};
 ghost use Rattle.errno.specs.Errno.{number_of};
 ghost use Rattle.mask.specs.Bits.{bits, count_below};
 ghost use Rattle.rules.specs.Commands.{answered};
+ghost use Rattle.print.specs.Digits.{IsDigitCount};
 
 use errno::Errno;
 use mask::Mask;
 use rules::{Answer, Masks};
+use std::io;
 
-const OUT: i32 = 1;
-
-pub fn text(s: &[u8]) -> usize
-    ensures { result ≡ length s.now }
+pub fn text(rt: &impl Print, s: &[u8]) -> io::Result<usize>
+    ensures { IfOk result (λ r. r ≡ length s.now) }
 {
-    io::write_all(OUT, s);
-    s.len()
+    rt.write_all(s)?;
+    Ok(s.len())
 }
 
 // The first n bytes, or all where there are fewer.
-pub fn first(s: &[u8], n: usize) -> usize
-    ensures { result ≡ min n (length s.now) }
+pub fn first(rt: &impl Print, s: &[u8], n: usize) -> io::Result<usize>
+    ensures { IfOk result (λ r. r ≡ min n (length s.now)) }
 {
     if s.len() <= n {
-        return text(s);
+        return text(rt, s);
     }
-    text(&s[..n])
+    text(rt, &s[..n])
 }
 
 // A text with each newline as \n, so that it stays on its line. Answers the length of the text itself.
-pub fn escaped(s: &[u8]) -> usize
-    ensures { result ≡ length s.now }
+pub fn escaped(rt: &impl Print, s: &[u8]) -> io::Result<usize>
+    ensures { IfOk result (λ r. r ≡ length s.now) }
 {
     let mut i = 0usize;
     while i < s.len() {
-        escaped_byte(s[i]);
+        escaped_byte(rt, s[i])?;
         i += 1;
     }
-    i
+    Ok(i)
 }
 
-fn escaped_byte(c: u8) {
+fn escaped_byte(rt: &impl Print, c: u8) -> io::Result<()> {
     if c == b'\n' {
-        text(b"\\n");
+        text(rt, b"\\n")?;
     } else {
         let one = [c];
-        text(&one);
+        text(rt, &one)?;
     }
+    Ok(())
 }
 
 // A line of a label and a number in decimal. Answers how many digits that took.
-pub fn number(label: &[u8], n: u64) -> usize
-    ensures { IsDigitCount 10 1 n result }
+pub fn number(rt: &impl Print, label: &[u8], n: u64) -> io::Result<usize>
+    ensures { IfOk result (λ r. IsDigitCount 10 1 n r) }
 {
-    text(label);
-    let r = decimal(n);
-    text(b"\n");
-    r
+    text(rt, label)?;
+    let r = decimal(rt, n)?;
+    text(rt, b"\n")?;
+    Ok(r)
 }
 
 // A number in decimal. Answers how many digits that took.
-pub fn decimal(n: u64) -> usize
-    ensures { IsDigitCount 10 1 n result }
+pub fn decimal(rt: &impl Print, n: u64) -> io::Result<usize>
+    ensures { IfOk result (λ r. IsDigitCount 10 1 n r) }
 {
-    let mut digits = [0u8; 20];
-    let k = io::decimal(n, &mut digits);
-    text(&digits[..k]);
-    k
+    rt.print(n)?;
+    Ok(n.checked_ilog10().map_or(1, |k| k as usize + 1))
 }
 
 // What a command answered: the line for done, or a text and the name of the refusal. Answers the errno value.
-pub fn answer(done: &[u8], refused: &[u8], a: Answer) -> u8
-    ensures { result ≡ answered a }
+pub fn answer(rt: &impl Print, done: &[u8], refused: &[u8], a: Answer) -> io::Result<u8>
+    ensures { IfOk result (λ r. r ≡ answered a) }
 {
     let r = rules::answer_number(a);
     match a {
         Answer::Done => {
-            text(done);
+            text(rt, done)?;
         }
         Answer::Refused(e) => {
-            text(refused);
-            name(e);
-            text(b"\n");
+            text(rt, refused)?;
+            name(rt, e)?;
+            text(rt, b"\n")?;
         }
     }
-    r
+    Ok(r)
 }
 
 // The name of a refusal. Answers its errno value.
-pub fn name(e: Errno) -> u8
-    ensures { result ≡ number_of e }
+pub fn name(rt: &impl Print, e: Errno) -> io::Result<u8>
+    ensures { IfOk result (λ r. r ≡ number_of e) }
 {
     let name = errno::name(e);
     let bytes = name.bytes;
-    first(&bytes, name.len);
-    errno::number(e)
+    first(rt, &bytes, name.len)?;
+    Ok(errno::number(e))
 }
 
 // The three masks of a matrix, a line for each. Answers how many bits are set in all.
-pub fn masks(m: Masks) -> u32
-    ensures { result ≡ count_below 256 (bits m.adapters) + count_below 256 (bits m.domains)
-        + count_below 256 (bits m.controls) }
+#[tactic(auto, using(mask::proofs::Laws::count_le))]
+pub fn masks(rt: &impl Print, m: Masks) -> io::Result<u32>
+    ensures { IfOk result (λ r. r ≡ count_below 256 (bits m.adapters) + count_below 256 (bits m.domains)
+        + count_below 256 (bits m.controls)) }
 {
     let adapters = m.adapters;
     let domains = m.domains;
     let controls = m.controls;
-    let a = mask_bits(b" adapters", adapters);
-    let d = mask_bits(b" domains", domains);
-    let c = mask_bits(b" controls", controls);
-    a + d + c
+    let a = mask_bits(rt, b" adapters", adapters)?;
+    let d = mask_bits(rt, b" domains", domains)?;
+    let c = mask_bits(rt, b" controls", controls)?;
+    Ok(a + d + c)
 }
 
 // A line of a label and the numbers of a mask's bits. Answers how many there are.
-pub fn mask_bits(label: &[u8], m: Mask) -> u32
-    ensures { result ≡ count_below 256 (bits m) }
+pub fn mask_bits(rt: &impl Print, label: &[u8], m: Mask) -> io::Result<u32>
+    ensures { IfOk result (λ r. r ≡ count_below 256 (bits m)) }
 {
-    text(label);
+    text(rt, label)?;
     let mut i = 0usize;
     while i < 256 {
-        bit(m, (i % 256) as u8);
+        bit(rt, m, (i % 256) as u8)?;
         i += 1;
     }
-    text(b"\n");
-    masks::count(m)
+    text(rt, b"\n")?;
+    Ok(masks::count(m))
 }
 
-fn bit(m: Mask, i: u8) {
+fn bit(rt: &impl Print, m: Mask, i: u8) -> io::Result<()> {
     if m.has(i) {
-        text(b" ");
-        decimal(i as u64);
+        text(rt, b" ")?;
+        decimal(rt, i as u64)?;
     }
+    Ok(())
 }
 
 // A mask as its 64 hex digits. Answers how many were written.
-pub fn mask_hex(m: Mask) -> usize
-    ensures { result ≡ 64 }
+pub fn mask_hex(rt: &impl Print, m: Mask) -> io::Result<usize>
+    ensures { IfOk result (λ r. r ≡ 64) }
 {
     let w = m.words;
-    word_hex(w[0]) + word_hex(w[1]) + word_hex(w[2]) + word_hex(w[3])
+    Ok(word_hex(rt, w[0])? + word_hex(rt, w[1])? + word_hex(rt, w[2])? + word_hex(rt, w[3])?)
 }
 
-fn word_hex(word: u64) -> usize
-    ensures { result ≡ 16 }
+fn word_hex(rt: &impl Print, word: u64) -> io::Result<usize>
+    ensures { IfOk result (λ r. r ≡ 16) }
 {
-    io::print_hex(OUT, word, 16);
-    16
+    print!(rt; "{word:016x}")?;
+    Ok(16)
 }

@@ -1,7 +1,7 @@
 // The console's session: it reads what there is of standard input, has it taken, and writes the answers. No contract can say what is
 // read or written; what becomes of it is the contract of crate feed.
 //
-// Rests on errno, rules, layout, encoding, served, answerline, feed and the kit's io and libc.
+// Rests on errno, rules, layout, encoding, served, answerline and feed.
 #![tactic(auto)]
 
 ghost use Rattle.std.specs.Prelude.{◌≡◌, ◌≤◌, length};
@@ -12,6 +12,7 @@ use answerline::LONGEST;
 use feed::{Fed, KEPT};
 use layout::{Drivers, WORDS, Words};
 use rules::QUEUES;
+use std::io::Read;
 
 // The most that is read at a time, and room for all answers to it.
 pub const PART: usize = 4096;
@@ -27,17 +28,25 @@ struct Went {
 }
 
 // Takes all of standard input. A read that fails ends the input, and a write that fails ends the session.
-pub fn play() {
+pub fn play(rt: &(impl Input + Print)) {
     let mut words = [0u64; WORDS];
     let mut drivers = [0u8; QUEUES];
     let mut line = [0u8; KEPT];
     let mut out = buffer();
     feed::begin(&mut words, &mut drivers);
-    let went = take_all(&mut words, &mut drivers, &mut line, &mut out);
+    let mut input = rt.reader();
+    let went = take_all(
+        &mut input,
+        rt,
+        &mut words,
+        &mut drivers,
+        &mut line,
+        &mut out,
+    );
     if went.failed {
         return;
     }
-    end(&mut words, &mut drivers, &line, went.held, &mut out);
+    end(rt, &mut words, &mut drivers, &line, went.held, &mut out);
 }
 
 fn buffer() -> [u8; OUT]
@@ -46,7 +55,14 @@ fn buffer() -> [u8; OUT]
     [0u8; OUT]
 }
 
-fn take_all(words: &mut Words, drivers: &mut Drivers, line: &mut [u8; KEPT], out: &mut [u8]) -> Went
+fn take_all(
+    input: &mut impl Read,
+    rt: &impl Print,
+    words: &mut Words,
+    drivers: &mut Drivers,
+    line: &mut [u8; KEPT],
+    out: &mut [u8],
+) -> Went
     requires { length out.old ≡ room }
     ensures { Passes 0 line words drivers result.held }
 {
@@ -54,7 +70,7 @@ fn take_all(words: &mut Words, drivers: &mut Drivers, line: &mut [u8; KEPT], out
     // A loop has to end, and nothing says that an input does: no run uses this number up.
     let mut left = u64::MAX;
     while 0 < left {
-        let went = turn(words, drivers, line, held, out);
+        let went = turn(input, rt, words, drivers, line, held, out);
         if went.ended {
             return went;
         }
@@ -70,6 +86,8 @@ fn take_all(words: &mut Words, drivers: &mut Drivers, line: &mut [u8; KEPT], out
 
 // Reads what there is, and answers the lines that it ends.
 fn turn(
+    input: &mut impl Read,
+    rt: &impl Print,
     words: &mut Words,
     drivers: &mut Drivers,
     line: &mut [u8; KEPT],
@@ -80,8 +98,7 @@ fn turn(
     ensures { Passes held line words drivers result.held }
 {
     let mut part = [0u8; PART];
-    let got = libc::read(libc::STDIN_FILENO, &mut part);
-    let n = io::count(got, &part);
+    let n = input.read(&mut part).unwrap_or(0);
     if n == 0 {
         return Went {
             held,
@@ -91,7 +108,7 @@ fn turn(
     }
     let fed = take(words, drivers, line, held, &part[..n], out);
     let written = fed.written;
-    let sent = io::write_all(libc::STDOUT_FILENO, &out[..written]);
+    let sent = rt.write_all(&out[..written]).is_ok();
     Went {
         held: fed.held,
         ended: !sent,
@@ -117,7 +134,14 @@ fn take(
 }
 
 // Answers a last line that no newline ended.
-fn end(words: &mut Words, drivers: &mut Drivers, line: &[u8; KEPT], held: usize, out: &mut [u8]) {
+fn end(
+    rt: &impl Print,
+    words: &mut Words,
+    drivers: &mut Drivers,
+    line: &[u8; KEPT],
+    held: usize,
+    out: &mut [u8],
+) {
     let n = feed::finish(words, drivers, line, held, out);
-    io::write_all(libc::STDOUT_FILENO, &out[..n]);
+    let _ = rt.write_all(&out[..n]);
 }
