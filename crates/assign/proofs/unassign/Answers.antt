@@ -1,0 +1,20 @@
+-- `unassign` meets its contract: the number that the text says, or the refusal of bad text.
+use mathlib.Core.Path.{sym, ap, ◌∙◌}
+use borrow.Author.Rules.{rules}
+use Rattle.errno.specs.declared.Errno.TheVariants.{Einval}
+use Rattle.number.specs.Text.{outcome}
+use Rattle.assign.proofs.Laws.{unassigned_by, not_unassigned}
+use Rattle.assign.proofs.unassign.Goals as goal
+
+pub returns-in-Value : goal.returns-in-Value
+unfolding outcome
+returns-in-Value c =
+    let a = c.args in
+    let n = c.n-1.given in
+    unassigned_by a.kind a.id a.text.now a.words.now n.0.0 (sym c.parse.ensures ∙ ap outcome n.1) c.unassign.ensures
+
+pub returns-in-Bad : goal.returns-in-Bad
+unfolding outcome
+returns-in-Bad c =
+    let a = c.args in
+    not_unassigned a.kind a.id a.text.now a.words.now Einval (sym c.parse.ensures ∙ ap outcome c.in-Bad.is)
