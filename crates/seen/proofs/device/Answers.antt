@@ -1,0 +1,22 @@
+-- `device` meets its contract: what is in the slot, or nothing.
+use mathlib.Core.Bool.{true≢false}
+use mathlib.Core.Path.{refl, sym, ap, ◌∙◌}
+use borrow.Author.Rules.{rules}
+use borrow.Author.Tests.{not-true, not-false}
+use Rattle.shown.specs.Shown.{bit}
+use Rattle.seen.proofs.device.Goals as goal
+
+pub returns-then-not-present : goal.returns-then-not-present
+returns-then-not-present c =
+    let none = sym c.present.ensures ∙ c.if-not-present.true in
+    record { there = λ e. absurd (true≢false (sym e ∙ none)); absent = λ e. (c.number.ensures, refl, refl) }
+
+pub returns : goal.returns
+returns c =
+    let f = c in
+    let i = f in
+    let one = sym i.present.ensures ∙ i.if-not-present.false in
+    record {
+      there = λ e. (refl, rw i.id.ensures at i.to_bytes.ensures, c.flag.ensures ∙ ap bit f.is_open.ensures);
+      absent = λ e. absurd (true≢false (sym one ∙ e));
+    }
