@@ -10,8 +10,7 @@ pub returns-in-Value : goal.returns-in-Value
 unfolding outcome
 returns-in-Value c =
     let a = c.args in
-    let n = c.n-1.given in
-    unassigned_by a.kind a.id a.text.now a.words.now n.0.0 (sym c.parse.ensures ∙ ap outcome n.1) c.unassign.ensures
+    unassigned_by a.kind a.id a.text.now a.words.now c.in-Value.n (sym c.parse.ensures ∙ ap outcome c.in-Value.is) c.unassign.ensures
 
 pub returns-in-Bad : goal.returns-in-Bad
 unfolding outcome
