@@ -1,0 +1,11 @@
+-- `make_move` meets its contract.
+use native.Mathlib.Omega.{arith}
+use borrow.Author.Rules.{rules}
+use Rattle.request.proofs.Laws.{moved}
+use Rattle.request.proofs.make_move.Goals as goal
+
+pub returns : goal.returns
+returns c =
+    let s = c in
+    let a = s.args in
+    moved a.adapter.0 a.domain.0 a.words.now a.drivers.now _ _ c.move_queue.result (omega (arith, s)) (omega (arith, s)) c.moved_number.ensures c.move_queue.ensures
