@@ -67,7 +67,7 @@ pub returns-in_default : goal.returns-in_default
 unfolding rule effect
 returns-in_default c =
     let a = c.args in
-    let n = c.in_default.rest in
+    let n = c.in_default.in_default-own.rest in
     let g = c.configuration_of in
     obeyed
     (is_configure a.op a.kind a.id a.text.now n.0.0.0.0.0.0.0.1 n.0.0.0.0.0.0.1 n.0.0.0.0.0.1 n.0.0.0.0.1 n.0.0.0.1 n.0.0.1 n.0.1 n.1
