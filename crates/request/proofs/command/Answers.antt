@@ -1,4 +1,5 @@
 -- `command` meets its contract: each operation is carried out by its function, which is a call.
+use native.Mathlib.Omega.{arith}
 use mathlib.Core.Path.{refl, sym, ap, ◌∙◌}
 use borrow.Author.Rules.{rules}
 use Rattle.model.specs.Steps.{configure, rule}
@@ -67,9 +68,8 @@ pub returns-in_default : goal.returns-in_default
 unfolding rule effect
 returns-in_default c =
     let a = c.args in
-    let n = c.in_default.in_default-own.rest in
     let g = c.configuration_of in
     obeyed
-    (is_configure a.op a.kind a.id a.text.now n.0.0.0.0.0.0.0.1 n.0.0.0.0.0.0.1 n.0.0.0.0.0.1 n.0.0.0.0.1 n.0.0.0.1 n.0.0.1 n.0.1 n.1
+    (is_configure a.op a.kind a.id a.text.now (omega arith) (omega arith) (omega arith) (omega arith) (omega arith) (omega arith) (omega arith) (omega arith)
     ∙ ap configure (sym g.ensures)) c.configure.ensures
     (configures g.result c.configure.result c.configure.ensures)
