@@ -1,0 +1,10 @@
+-- `run` meets its contract: a fresh record, and then the requests.
+use native.Mathlib.Omega.{arith}
+use borrow.Author.Rules.{rules}
+use Rattle.run.proofs.Laws.{runs}
+use Rattle.run.proofs.run.Goals as goal
+
+pub returns : goal.returns
+returns c =
+    let s = c in
+    runs c.fresh.ensures c.carry_out.ensures (omega (arith, s)) (omega (arith, s))
