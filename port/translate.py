@@ -12,9 +12,10 @@ The code of a Rattle function is a Rust function's code. So a line is copied as 
     ensures NAME { ... }                 the same; the name may be missing, and lines after the first are indented more
     #[derive(...)]                       loses Drop, which Rust has no derive for; one of Drop alone is dropped
     #[unsafe(no_mangle)]                 dropped from an export, whose head loses its extern "C": the shim has both
-    fn main() {                          gets a pub, since a program is a module too
+    fn main(rt: HostRuntime) ... {       gets a pub, since a program is a module too
 
-A line `use crate::{...};` goes before the first, with the crates that are named.
+A line `use crate::{...};` goes before the first, with the crates that are named, and `use crate::kit::*;` where a name of the kit's
+prelude is for which something stands in port/kit.rs: in programs alone.
 
 A line of code of another form stops the translation where it has a word or a sign of a specification, or something else
 that is on the list STRANGE, or a comment or a string that runs over its end. Only a string whose line ends in a backslash may go
@@ -40,13 +41,15 @@ DERIVES = {"Clone", "Copy", "Debug", "PartialEq", "Eq", "PartialOrd", "Ord"}
 NO_MANGLE = "#[unsafe(no_mangle)]"
 EXPORT = re.compile(r'pub extern "C" (fn \w+\(.*)')
 TYPE = re.compile(r"(pub )?(struct|enum) \w+.*")
-MAIN = "fn main() {"
+MAIN = re.compile(r"fn main\(rt: HostRuntime\)( -> io::Result<\(\)>)? \{")
 USE = re.compile(r"^use (\w+)::(?:(\w+)|\{([^{}]*)\});", re.M)
 # the lines of a string after its first: one that goes on, and the last, after whose quote only these signs may come
 STRING_MORE = re.compile(r'(\\.|[^"\\])*\\')
 STRING_END = re.compile(r'(\\.|[^"\\])*"[),;]*')
-# the kit's libraries: what rests on them is for programs
-KIT = {"std", "check", "libc", "io", "os", "bytes"}
+# a macro of port/kit.rs
+PRINT = re.compile(r"\bprint!\(rt; (?=\")")
+# names of the kit's prelude for which something stands there
+PRELUDE = re.compile(r"\b(HostRuntime|Input|Print)\b")
 # what a line of code that is copied must not have, beside what is not ASCII
 STRANGE = re.compile(
     r"\b(ghost|requires|ensures|invariant|decreases|assert\w*|assume\w*|unsafe|extern|static|mod|trait)\b"
@@ -90,10 +93,10 @@ mod shims {
 PROGRAM_HEAD = """\
 // Made by port/translate.py from the crates of Zokormendu.
 #![forbid(unsafe_code)]
-#![allow(dead_code, unused_variables, unused_imports)]
+#![allow(dead_code, unused_variables, unused_imports, unused_macros)]
 
+#[macro_use]
 mod kit;
-use kit::{bytes, io, libc};
 """
 
 
@@ -203,14 +206,14 @@ def translate(path, lines, counts):
             exports.append(read_head(path, lines[i - 1 :]))
             counts["heads changed"] += 1
             line = "pub " + export[1]
-        elif line == MAIN:
+        elif MAIN.fullmatch(line):
             counts["heads changed"] += 1
             line = "pub " + line
         else:
             counts["lines copied"] += 1
         if not is_comment(line):
             in_string = string_open(line)
-            if in_string is None or not line.isascii() or STRANGE.search(line):
+            if in_string is None or not line.isascii() or STRANGE.search(PRINT.sub("", line)):
                 raise strange("a form that is not known")
             # a call can end as a head does, but is not followed by a contract or a body
             end = HEAD_END.fullmatch(line)
@@ -277,10 +280,11 @@ def shim(crate, names, export):
 
 
 def imports(rests_on, lines):
-    """The line that brings those crates into scope whose names stand before :: in the code."""
+    """The lines that bring those crates into scope whose names stand before :: in the code, and the kit's prelude."""
     code = "\n".join(line for line in lines if not is_comment(line))
     used = [name for name in rests_on if re.search(rf"\b{name}::", code)]
-    return [f"use crate::{{{', '.join(used)}}};"] if used else []
+    lines = [f"use crate::{{{', '.join(used)}}};"] if used else []
+    return lines + ["use crate::kit::*;"] * bool(PRELUDE.search(code))
 
 
 def read_crates():
@@ -295,24 +299,24 @@ def read_crates():
             crates[form[1]] = form[2].split()
     for name, others in crates.items():
         for other in others:
-            if other not in crates and other not in KIT:
-                raise Strange(f"crates.txt: {name} rests on {other}, which is neither a crate nor the kit's")
+            if other not in crates:
+                raise Strange(f"crates.txt: {name} rests on {other}, which is no crate")
     return crates
 
 
-def is_for_programs(crates, name):
-    """Whether a crate is a program or rests on the kit's libraries, of which crates.txt does not list std."""
-    if KIT & {*crates[name]} or os.path.exists(f"crates/{name}/src/main.rt"):
+def is_for_programs(name):
+    """Whether a crate is a program or uses the kit's std."""
+    if os.path.exists(f"crates/{name}/src/main.rt"):
         return True
     return any(re.search(r"\bstd::", line) for line in read_lines(f"crates/{name}/src/lib.rt") if not is_comment(line))
 
 
 def below(crates, name):
-    """All that a crate rests on, without the kit's libraries."""
+    """All that a crate rests on."""
     found, todo = set(), [name]
     while todo:
         for other in crates[todo.pop()]:
-            if other in crates and other not in found:
+            if other not in found:
                 found.add(other)
                 todo.append(other)
     return found
@@ -342,7 +346,7 @@ def main(folder, program=None):
     if program:
         wanted = [name for name in crates if name in below(crates, program) | {program}]
     else:
-        others = {name for name in crates if is_for_programs(crates, name)}
+        others = {name for name in crates if is_for_programs(name)}
         wanted = [name for name in crates if not others & (below(crates, name) | {name})]
     os.makedirs(folder, exist_ok=True)
     counts, seen, made, shims = collections.Counter(), 0, 0, []
@@ -360,7 +364,8 @@ def main(folder, program=None):
     if program:
         write(folder, "kit.rs", read_lines("port/kit.rs"))
         modules = [f"mod {name};" for name in wanted]
-        write(folder, "main.rs", [PROGRAM_HEAD, *modules, "", "fn main() {", f"    {program}::main()", "}"])
+        start = ["", "fn main() -> impl std::process::Termination {", f"    {program}::main(kit::HostRuntime)", "}"]
+        write(folder, "main.rs", [PROGRAM_HEAD, *modules, *start])
     else:
         modules = [f"#[forbid(unsafe_code)] mod {name};" for name in wanted]
         write(folder, "lib.rs", [LIBRARY_HEAD, *modules, SHIMS_HEAD.rstrip(), *shims, "}"])
