@@ -46,7 +46,7 @@ USE = re.compile(r"^use (\w+)::(?:(\w+)|\{([^{}]*)\});", re.M)
 # the lines of a string after its first: one that goes on, and the last, after whose quote only these signs may come
 STRING_MORE = re.compile(r'(\\.|[^"\\])*\\')
 STRING_END = re.compile(r'(\\.|[^"\\])*"[),;]*')
-# a macro of port/kit.rs
+# the one macro that is copied: port/kit.rs has it
 PRINT = re.compile(r"\bprint!\(rt; (?=\")")
 # names of the kit's prelude for which something stands there
 PRELUDE = re.compile(r"\b(HostRuntime|Input|Print)\b")
