@@ -4,29 +4,38 @@ SHELL = /bin/bash
 .SHELLFLAGS = -o pipefail -c
 .PHONY: run console test expected clean
 
-# The lines of a check that say which crate is proved; all of it where the check fails. $(1) is the command, $(2) its log.
-show = { mkdir -p target; $(1) 2>&1 | tee $(2) | grep --line-buffered '^rt: .* proved' || { cat $(2); exit 1; }; }
+# What the crates are made from. The folders are named too, so that a file that is gone is seen.
+SOURCES := crates.txt $(shell find crates/*/src crates/*/specs crates/*/proofs)
+
+# Runs rt in a crate's folder, and says which crates it proves: those that it has not proved as they are. All that it printed is
+# shown where it fails. $(1) is the crate, $(2) the command.
+PROVED = /^crate /h; /^logic=proved/{x;s/^crate \([^:]*\):.*/\1: proved/p}
+build = { mkdir -p target; (cd crates/$(1) && $(2)) 2>&1 | tee target/$(1).log | sed -un '$(PROVED)' || { cat target/$(1).log; exit 1; }; }
+
+# Makes target/bin/$(1). No command of rt only builds a program, so it runs here, on no input, and what it writes is dropped.
+program = $(call build,$(1),rt run </dev/null 2>&1 >/dev/null) && install -D crates/$(1)/out/$(1) target/bin/$(1)
 
 run:
-	@echo "proving the crates of the programs 'guests' and 'console': on a fresh clone some minutes, a line for each as it is proved"
-	@$(call show,rt check guests console,target/run.log)
+	@echo "proving the crates of the programs 'guests' and 'console': on a fresh clone that takes a while, a line for each as it is proved"
+	@$(call program,guests)
+	@$(call program,console)
 	@target/bin/guests
 	@echo
 	@echo "the same at the console, each line with its answer:"
 	@example/play.sh example/guests.console
 
-# The lines to come are not the check's to read.
 console:
-	@echo "proving the crates of the program 'console': on a fresh clone some minutes, a line for each as it is proved"
-	@$(call show,rt check console </dev/null,target/console.log)
+	@echo "proving the crates of the program 'console': on a fresh clone that takes a while, a line for each as it is proved"
+	@$(call program,console)
 	@echo "the console: a command a line, as 'apmask -5' or 'sweep'; the end of the input (Ctrl-D) ends it"
 	@target/bin/console
 
 test:
-	rt ci
+	.ci/run
 
+# rt keeps what it proved in crates/*/out.
 clean:
-	rm -rf target
+	rm -rf target crates/*/out
 
 # The expected output of three programs, and the input of two, was made by these Python programs, which share no code with
 # the library. This shows only that the stored files are still what they make. The answers of the console were worked out by hand,
@@ -48,19 +57,16 @@ expected:
 # What follows is outside of the proof. The library is proved first where that is not done yet.
 .PHONY: library install outside bench example
 LIB = target/lib/libzokormendu.a
-# The crates that export functions. `rt staticlib` makes an archive of each one's exports, with one object.
-EXPORTS = c_record c_devices c_assign c_number c_host c_queues c_matrix c_look c_line c_names
+# The crates that export functions. `rt lib` makes an archive of each one's exports, with one object, whose other symbols are local.
+EXPORTS = $(shell sed -n 's/^\([a-z0-9_]*\) staticlib:.*/\1/p' crates.txt)
 
 library: $(LIB)
 
-# The folders are named too, so that a file that is gone is seen.
-$(LIB): $(shell find crates.txt crates)
-	@echo "making $(LIB): on a fresh clone some five minutes, a line for each crate as it is proved"
-	@$(call show,rt check $(EXPORTS),target/library.log)
+$(LIB): $(SOURCES)
+	@echo "making $(LIB): on a fresh clone that takes a while, a line for each crate as it is proved"
 	@rm -rf target/lib && mkdir -p target/lib/objects
 	@for c in $(EXPORTS); do \
-	    rt staticlib $$c >target/library.log 2>&1 || { cat target/library.log; exit 1; }; \
-	    (cd target/lib/objects && ar x ../../staticlib/lib$$c.a) || exit 1; \
+	    $(call build,$$c,rt lib) && (cd target/lib/objects && ar x ../../../crates/$$c/out/lib$$c.a) || exit 1; \
 	    echo "$$c: compiled"; \
 	done
 	@ar rcs $(LIB) target/lib/objects/*.o
@@ -108,10 +114,9 @@ outside: target/outside/outside target/bin/console
 	target/outside/outside $(SEED) $(SECONDS)
 	target/outside/outside console $(SEED) $(LINES) target/bin/console
 
-target/bin/console: $(shell find crates.txt crates)
+target/bin/console: $(SOURCES)
 	@echo "making $@: a line for each crate as it is proved"
-	@$(call show,rt check console,target/console.log)
-	@touch $@
+	@$(call program,console)
 
 target/outside/outside: $(LIB) outside/outside.rs outside/header.c include/zokormendu.h
 	@mkdir -p target/outside
@@ -134,7 +139,8 @@ bench: library
 
 # This version beside another one, of which BEFORE is a clone, where the library is made too: each line of `make bench` in one process,
 # of the kit's archives and then of the translations; and, where valgrind is there, the instructions of single calls, of all four. The other
-# one must have the same functions and a record of the same size. RUSTC=... compiles both translations with another rustc.
+# one must have the same functions and a record of the same size, and be proved by the same kit. RUSTC=... compiles both translations with
+# another rustc.
 # `make layouts` measures each line once in each of LAYOUTS layouts of the program, and gives the median.
 .PHONY: compare layouts versions
 BEFORE =
@@ -178,11 +184,11 @@ s390x:
 	@SEED=$(SEED) STEPS=$(STEPS) port/s390x.sh test
 
 # Older than what it is made of, or not there.
-target/s390x/%/libzokormendu.a: $(shell find crates.txt crates port include outside example-c -type f ! -name '*.pyc')
+target/s390x/%/libzokormendu.a: $(shell find crates.txt crates port include outside example-c -name out -prune -o -type f ! -name '*.pyc' -print)
 	@echo "$@ is not there, or older than its sources: make s390x makes it"; exit 1
 
 # The translation beside its source, crate by crate, and last the shims, which have none. CRATES="mask rules" shows these alone.
-CRATES = $(shell sed -n 's/^\([a-z0-9_]*\):.*/\1/p' crates.txt) lib
+CRATES = $(shell sed -n 's/^\([a-z0-9_]*\)\( staticlib\)*:.*/\1/p' crates.txt) lib
 
 s390x-diff:
 	@rm -rf target/s390x/diff

@@ -1,63 +1,58 @@
-//! The functions of the kit's libraries that the programs call, over Rust's standard library. The kit's own rest on C functions
-//! that are declared for its compiler, and have forms that the translator does not know. No crate of the library calls them.
+//! What the programs use of the kit's std that Rust's has not, or has in another form: the handle that a program is given, and reading and
+//! printing with it. No crate of the library uses it.
 
-pub mod bytes {
-    pub mod scan {
-        /// The index of the first byte b from an index up to another, or the other where there is none.
-        pub fn find(a: &[u8], from: usize, to: usize, b: u8) -> usize {
-            a[from..to].iter().position(|&x| x == b).map_or(to, |k| from + k)
-        }
+use std::fmt::Display;
+use std::io::{self, Write};
+
+pub struct HostRuntime;
+
+pub trait Print {
+    /// Writes a value as text.
+    fn print(&self, value: impl Display) -> io::Result<()>;
+
+    /// Writes all bytes.
+    fn write_all(&self, bytes: &[u8]) -> io::Result<()>;
+}
+
+pub trait Input {
+    /// Standard input. A read gives what is there, and waits only where nothing is.
+    fn reader(&self) -> io::Stdin;
+}
+
+/// What is written is not kept back: somebody may be waiting for it.
+impl Print for HostRuntime {
+    fn print(&self, value: impl Display) -> io::Result<()> {
+        let mut out = io::stdout();
+        write!(out, "{value}")?;
+        out.flush()
+    }
+
+    fn write_all(&self, bytes: &[u8]) -> io::Result<()> {
+        let mut out = io::stdout();
+        out.write_all(bytes)?;
+        out.flush()
     }
 }
 
-pub mod libc {
-    use std::io::Read;
-
-    pub const STDIN_FILENO: i32 = 0;
-    pub const STDOUT_FILENO: i32 = 1;
-
-    /// Reads what is there, and waits only where nothing is; how many bytes there are, 0 at the end of the input, or -1.
-    pub fn read(fd: i32, buf: &mut [u8]) -> isize {
-        assert_eq!(fd, STDIN_FILENO);
-        std::io::stdin().read(buf).map_or(-1, |n| n as isize)
+impl Input for HostRuntime {
+    fn reader(&self) -> io::Stdin {
+        io::stdin()
     }
 }
 
-pub mod io {
-    use super::libc::{STDIN_FILENO, STDOUT_FILENO};
-    use std::io::{Read, Write};
+macro_rules! print {
+    ($rt:ident; $($text:tt)*) => {
+        $rt.print(format_args!($($text)*))
+    };
+}
 
-    /// What a read answered, as a number of the buffer's bytes.
-    pub fn count(got: isize, buf: &[u8]) -> usize {
-        usize::try_from(got).unwrap_or(0).min(buf.len())
-    }
+/// Rust has it from 1.67 on.
+pub trait Logarithm {
+    fn checked_ilog10(self) -> Option<u32>;
+}
 
-    /// Writes all bytes; whether that succeeded. They are not kept back: somebody may be waiting for them.
-    pub fn write_all(fd: i32, buf: &[u8]) -> bool {
-        assert_eq!(fd, STDOUT_FILENO);
-        let mut out = std::io::stdout();
-        out.write_all(buf).and_then(|()| out.flush()).is_ok()
-    }
-
-    /// Reads until the buffer is full or the input ends; how many bytes there are.
-    pub fn read_full(fd: i32, buf: &mut [u8]) -> usize {
-        assert_eq!(fd, STDIN_FILENO);
-        let mut done = 0;
-        while let Ok(n @ 1..) = std::io::stdin().read(&mut buf[done..]) {
-            done += n;
-        }
-        done
-    }
-
-    /// Puts the decimal digits at the start; how many there are.
-    pub fn decimal(n: u64, out: &mut [u8; 20]) -> usize {
-        let digits = n.to_string();
-        out[..digits.len()].copy_from_slice(digits.as_bytes());
-        digits.len()
-    }
-
-    /// Writes hex digits, with zeros in front up to a width; whether that succeeded.
-    pub fn print_hex(fd: i32, n: u64, width: usize) -> bool {
-        write_all(fd, format!("{n:0width$x}").as_bytes())
+impl Logarithm for u64 {
+    fn checked_ilog10(self) -> Option<u32> {
+        (0..20).rev().find(|&k| 10u64.pow(k) <= self)
     }
 }

@@ -4,21 +4,23 @@
     translate.py OUT            the library: OUT/lib.rs, a module for each crate, and a shim for each export
     translate.py OUT PROGRAM    a program of the gate: OUT/main.rs, and a module for each crate that it rests on
 
-The code of a Rattle function is a Rust function's code. So a line is copied as it is, unless it has one of six forms:
+The code of a Rattle function is a Rust function's code. So a line is copied as it is, unless it has one of seven forms:
 
     ghost use ...;                       dropped
-    requires { ⌜ ... ⌝ }                 dropped, where it stands between the head and the body of a function
-    ensures NAME { λ r. ⌜ ... ⌝ }        the same; the name may be missing, and lines after the first are indented more
-    #[no_mangle]                         dropped from an export, whose head loses its extern "C": the shim has both
-    struct ... and enum ...              #[derive(Clone, Copy)] goes before it
-    fn main() {                          gets a pub, since a program is a module too
+    #![tactic(...)] or #[tactic(...)]    dropped: how the check is to prove
+    requires { ... }                     dropped, where it stands between the head and the body of a function
+    ensures NAME { ... }                 the same; the name may be missing, and lines after the first are indented more
+    #[derive(...)]                       loses Drop, which Rust has no derive for; one of Drop alone is dropped
+    #[unsafe(no_mangle)]                 dropped from an export, whose head loses its extern "C": the shim has both
+    fn main(rt: HostRuntime) ... {       gets a pub, since a program is a module too
 
-A line `use crate::{...};` goes before the first, with the crates that are named.
+A line `use crate::{...};` goes before the first, with the crates that are named, and `use crate::kit::*;` where a name of the kit's
+prelude is for which something stands in port/kit.rs: in programs alone.
 
 A line of code of another form stops the translation where it has a word or a sign of a specification, or something else
 that is on the list STRANGE, or a comment or a string that runs over its end. Only a string whose line ends in a backslash may go
 on; the lines within it, and comments, are copied whatever they have. What is left is copied too, and rustc judges it. So
-nothing is missing from the output but lines of the first four forms.
+nothing is missing from the output but lines of the first six forms.
 """
 
 import collections
@@ -29,18 +31,25 @@ import sys
 GHOST_USE = re.compile(r"ghost use [^;]+;")
 # the last line of a function's head, where its body begins on a line of its own
 HEAD_END = re.compile(r"""( *)((pub )?(extern "C" )?fn \w+(<'[a-z]>)?\(.*)?\)( -> [^{}]+)?""")
-CONTRACT = re.compile(r"( *)(requires|ensures)( \w+)? \{ (λ \w+\. )?⌜ .*")
-CONTRACT_END = " ⌝ }"
-NO_MANGLE = "#[no_mangle]"
+CONTRACT = re.compile(r"( *)(requires|ensures)( \w+)? \{ .*")
+# what can hold a brace that is none of a clause's own
+CONTRACT_STRANGE = re.compile(r"//|--|\"|'[{}]'|\{-")
+TACTIC = re.compile(r" *#!?\[tactic\([^\[\]]*\)\]")
+DERIVE = re.compile(r"#\[derive\((\w+(?:, \w+)*)\)\]")
+# those that Rust has, with the same meaning
+DERIVES = {"Clone", "Copy", "Debug", "PartialEq", "Eq", "PartialOrd", "Ord"}
+NO_MANGLE = "#[unsafe(no_mangle)]"
 EXPORT = re.compile(r'pub extern "C" (fn \w+\(.*)')
 TYPE = re.compile(r"(pub )?(struct|enum) \w+.*")
-MAIN = "fn main() {"
-USE = re.compile(r"use (\w+)::(\w+);")
+MAIN = re.compile(r"fn main\(rt: HostRuntime\)( -> io::Result<\(\)>)? \{")
+USE = re.compile(r"^use (\w+)::(?:(\w+)|\{([^{}]*)\});", re.M)
 # the lines of a string after its first: one that goes on, and the last, after whose quote only these signs may come
 STRING_MORE = re.compile(r'(\\.|[^"\\])*\\')
 STRING_END = re.compile(r'(\\.|[^"\\])*"[),;]*')
-# the kit's libraries: what rests on them is for programs
-KIT = {"std", "check", "libc", "io", "os", "bytes"}
+# the one macro that is copied: port/kit.rs has it
+PRINT = re.compile(r"\bprint!\(rt; (?=\")")
+# names of the kit's prelude for which something stands there
+PRELUDE = re.compile(r"\b(HostRuntime|Input|Print)\b")
 # what a line of code that is copied must not have, beside what is not ASCII
 STRANGE = re.compile(
     r"\b(ghost|requires|ensures|invariant|decreases|assert\w*|assume\w*|unsafe|extern|static|mod|trait)\b"
@@ -84,10 +93,10 @@ mod shims {
 PROGRAM_HEAD = """\
 // Made by port/translate.py from the crates of Zokormendu.
 #![forbid(unsafe_code)]
-#![allow(dead_code, unused_variables, unused_imports)]
+#![allow(dead_code, unused_variables, unused_imports, unused_macros)]
 
+#[macro_use]
 mod kit;
-use kit::{bytes, io, libc};
 """
 
 
@@ -117,6 +126,15 @@ def string_open(line):
     return False
 
 
+def depth_after(line, depth):
+    """How many braces are open after a line of a clause; None where the line goes on after the last one."""
+    for at, sign in enumerate(line):
+        depth += {"{": 1, "}": -1}.get(sign, 0)
+        if sign == "}" and depth == 0 and at + 1 < len(line):
+            return None
+    return depth
+
+
 def translate(path, lines, counts):
     """The lines of a crate in Rust, and the heads of its exports."""
     out, exports = [], []
@@ -141,17 +159,20 @@ def translate(path, lines, counts):
         if contract:
             if head is None or contract[1] != head + "    ":
                 raise strange("a contract that does not follow the head of a function")
-            text = line
-            counts[f"lines of {contract[2]} dropped"] += 1
-            while not line.endswith(CONTRACT_END):
+            depth = 0
+            while True:
+                counts[f"lines of {contract[2]} dropped"] += 1
+                depth = depth_after(line, depth)
+                if depth is None or CONTRACT_STRANGE.search(line):
+                    raise strange("more than a contract, or a text in it")
+                if depth == 0:
+                    break
                 line = lines[i] if i < len(lines) else ""
                 i += 1
                 if not line.startswith(contract[1] + "    "):
                     raise strange("a contract that does not end")
-                text += line
-                counts[f"lines of {contract[2]} dropped"] += 1
-            if text.count("⌜") != 1 or text.count("⌝") != 1:
-                raise strange("more than a contract")
+            if not line.endswith(" }"):
+                raise strange("a contract that does not end as others do")
             continue
         if head is not None and line != head + "{":
             raise strange("neither a contract nor the body of a function")
@@ -159,29 +180,40 @@ def translate(path, lines, counts):
         if GHOST_USE.fullmatch(line):
             counts["ghost lines dropped"] += 1
             continue
+        if TACTIC.fullmatch(line):
+            counts["lines of tactic dropped"] += 1
+            continue
         if line == NO_MANGLE:
             if i == len(lines) or not EXPORT.fullmatch(lines[i]):
                 raise strange("not before an export")
             counts["lines of no_mangle dropped"] += 1
             continue
+        derive = DERIVE.fullmatch(line)
+        if derive:
+            names = derive[1].split(", ")
+            if not {*names} - {"Drop"} <= DERIVES or i == len(lines) or not TYPE.fullmatch(lines[i]):
+                raise strange("not known, or not before a type")
+            if names == ["Drop"]:
+                counts["lines of derive dropped"] += 1
+            else:
+                counts["lines copied"] += 1
+                out.append(f"#[derive({', '.join(name for name in names if name != 'Drop')})]")
+            continue
         export = EXPORT.fullmatch(line)
         if export:
             if i < 2 or lines[i - 2] != NO_MANGLE:
-                raise strange("an export without #[no_mangle]")
+                raise strange(f"an export without {NO_MANGLE}")
             exports.append(read_head(path, lines[i - 1 :]))
             counts["heads changed"] += 1
             line = "pub " + export[1]
-        elif line == MAIN:
+        elif MAIN.fullmatch(line):
             counts["heads changed"] += 1
             line = "pub " + line
         else:
             counts["lines copied"] += 1
-            if TYPE.fullmatch(line):
-                counts["lines of derive added"] += 1
-                out.append("#[derive(Clone, Copy)]")
         if not is_comment(line):
             in_string = string_open(line)
-            if in_string is None or not line.isascii() or STRANGE.search(line):
+            if in_string is None or not line.isascii() or STRANGE.search(PRINT.sub("", line)):
                 raise strange("a form that is not known")
             # a call can end as a head does, but is not followed by a contract or a body
             end = HEAD_END.fullmatch(line)
@@ -248,10 +280,11 @@ def shim(crate, names, export):
 
 
 def imports(rests_on, lines):
-    """The line that brings those crates into scope whose names stand before :: in the code."""
+    """The lines that bring those crates into scope whose names stand before :: in the code, and the kit's prelude."""
     code = "\n".join(line for line in lines if not is_comment(line))
     used = [name for name in rests_on if re.search(rf"\b{name}::", code)]
-    return [f"use crate::{{{', '.join(used)}}};"] if used else []
+    lines = [f"use crate::{{{', '.join(used)}}};"] if used else []
+    return lines + ["use crate::kit::*;"] * bool(PRELUDE.search(code))
 
 
 def read_crates():
@@ -260,26 +293,42 @@ def read_crates():
     for line in read_lines("crates.txt"):
         line = line.split("#")[0].strip()
         if line:
-            form = re.fullmatch(r"(\w+):((?: +\w+)*)", line)
-            if not form:
-                raise Strange(f"crates.txt: a line that is not known:\n    {line}")
+            form = re.fullmatch(r"(\w+)(?: +staticlib)?:((?: +\w+)*)", line)
+            if not form or form[1] in crates:
+                raise Strange(f"crates.txt: a line that is not known, or a second one:\n    {line}")
             crates[form[1]] = form[2].split()
-            for other in crates[form[1]]:
-                # a crate stands after those that it rests on
-                if other not in crates and other not in KIT:
-                    raise Strange(f"crates.txt: {form[1]} rests on {other}, which is neither a crate nor the kit's")
+    for name, others in crates.items():
+        for other in others:
+            if other not in crates:
+                raise Strange(f"crates.txt: {name} rests on {other}, which is no crate")
     return crates
 
 
+def is_for_programs(name):
+    """Whether a crate is a program or uses the kit's std."""
+    if os.path.exists(f"crates/{name}/src/main.rt"):
+        return True
+    return any(re.search(r"\bstd::", line) for line in read_lines(f"crates/{name}/src/lib.rt") if not is_comment(line))
+
+
 def below(crates, name):
-    """All that a crate rests on, without the kit's libraries."""
+    """All that a crate rests on."""
     found, todo = set(), [name]
     while todo:
         for other in crates[todo.pop()]:
-            if other in crates and other not in found:
+            if other not in found:
                 found.add(other)
                 todo.append(other)
     return found
+
+
+def imported(lines):
+    """The names that the use lines bring in, with their paths."""
+    names = {}
+    for crate, one, several in USE.findall("\n".join(lines)):
+        for name in re.findall(r"\w+", one or several):
+            names[name] = f"{crate}::{name}"
+    return names
 
 
 def write(folder, name, lines):
@@ -297,8 +346,8 @@ def main(folder, program=None):
     if program:
         wanted = [name for name in crates if name in below(crates, program) | {program}]
     else:
-        of_kit = {name for name in crates if KIT & set(crates[name])}
-        wanted = [name for name in crates if not of_kit & (below(crates, name) | {name})]
+        others = {name for name in crates if is_for_programs(name)}
+        wanted = [name for name in crates if not others & (below(crates, name) | {name})]
     os.makedirs(folder, exist_ok=True)
     counts, seen, made, shims = collections.Counter(), 0, 0, []
     for name in wanted:
@@ -310,18 +359,17 @@ def main(folder, program=None):
         code, exports = translate(f"{source}/{file}", lines, counts)
         made += len(code)
         write(folder, f"{name}.rs", imports(crates[name], code) + code)
-        names = {use[2]: f"{use[1]}::{use[2]}" for use in map(USE.fullmatch, code) if use}
         for export in exports:
-            shims += shim(name, names, export)
+            shims += shim(name, imported(code), export)
     if program:
         write(folder, "kit.rs", read_lines("port/kit.rs"))
         modules = [f"mod {name};" for name in wanted]
-        write(folder, "main.rs", [PROGRAM_HEAD, *modules, "", "fn main() {", f"    {program}::main()", "}"])
+        start = ["", "fn main() -> impl std::process::Termination {", f"    {program}::main(kit::HostRuntime)", "}"]
+        write(folder, "main.rs", [PROGRAM_HEAD, *modules, *start])
     else:
         modules = [f"#[forbid(unsafe_code)] mod {name};" for name in wanted]
         write(folder, "lib.rs", [LIBRARY_HEAD, *modules, SHIMS_HEAD.rstrip(), *shims, "}"])
-    total = {end: sum(n for what, n in counts.items() if what.endswith(end)) for end in ("dropped", "added")}
-    if made != seen - total["dropped"] + total["added"]:
+    if made != seen - sum(n for what, n in counts.items() if what.endswith("dropped")):
         raise Strange("lines that are neither copied nor changed nor dropped")
     parts = ", ".join(f"{n} {what}" for what, n in sorted(counts.items()))
     rest = "" if program else f"; not in it, as for programs: {', '.join(name for name in crates if name not in wanted)}"

@@ -4,35 +4,51 @@
 import collections
 import sys
 
-from translate import Strange, shim, translate
+from translate import Strange, imported, shim, translate
 
 # A text, and what becomes of it.
 GOOD = {
-    "a ghost line": ("ghost use a.B.{c, _≡_};\nuse mask::Mask;", "use mask::Mask;"),
+    "a ghost line": ("ghost use a.B.{c, ◌≡◌};\nuse mask::Mask;", "use mask::Mask;"),
+    "tactics": (
+        "#![tactic(auto)]\n\n#[tactic(auto, using(a, b))]\nfn f() {\n    #[tactic(none)]\n    g();\n}",
+        "\nfn f() {\n    g();\n}",
+    ),
     "a contract": (
-        "fn f(x: u8) -> u8\n    requires { ⌜ x < 4 ⌝ }\n    ensures named { λ r. ⌜ r ≡ x ⌝ }\n{\n    x\n}",
+        "fn f(x: u8) -> u8\n    requires { x < 4 }\n    ensures named { result ≡ x }\n{\n    x\n}",
         "fn f(x: u8) -> u8\n{\n    x\n}",
     ),
     "a contract of two lines": (
-        "    fn f(\n        x: u8,\n    ) -> [u8; 2]\n        ensures { λ r. ⌜ r\n            ≡ x ⌝ }\n    {\n    }",
+        "    fn f(\n        x: u8,\n    ) -> [u8; 2]\n        ensures { result\n            ≡ x }\n    {\n    }",
         "    fn f(\n        x: u8,\n    ) -> [u8; 2]\n    {\n    }",
     ),
+    "braces in a contract": (
+        "fn f(x: u8)\n    requires a { g {p = x} ({ y }) }\n    ensures b { g {p = x'}\n        {q = x} }\n{\n}",
+        "fn f(x: u8)\n{\n}",
+    ),
     "no contract": ("fn f() {\n    g(\n        1,\n    )\n}", "fn f() {\n    g(\n        1,\n    )\n}"),
-    "a type": ("pub struct A(pub u8);\n// why\nenum B {", "#[derive(Clone, Copy)]\npub struct A(pub u8);\n// why\n#[derive(Clone, Copy)]\nenum B {"),
+    "types": (
+        "#[derive(Clone, Copy)]\npub struct A(pub u8);\n#[derive(Drop)]\nstruct B(u8);\n// why\n#[derive(Debug, Drop, Eq)]\nenum C {",
+        "#[derive(Clone, Copy)]\npub struct A(pub u8);\nstruct B(u8);\n// why\n#[derive(Debug, Eq)]\nenum C {",
+    ),
     "an export": (
-        '#[no_mangle]\npub extern "C" fn f(x: u8) -> u8\n    ensures { λ r. ⌜ r ≡ x ⌝ }\n{\n    x\n}',
+        '#[unsafe(no_mangle)]\npub extern "C" fn f(x: u8) -> u8\n    ensures { result ≡ x }\n{\n    x\n}',
         "pub fn f(x: u8) -> u8\n{\n    x\n}",
     ),
-    "a program": ("fn main() {\n}", "pub fn main() {\n}"),
+    "a program": ("fn main(rt: HostRuntime) {\n}", "pub fn main(rt: HostRuntime) {\n}"),
+    "a program with a result": (
+        "fn main(rt: HostRuntime) -> io::Result<()> {\n}",
+        "pub fn main(rt: HostRuntime) -> io::Result<()> {\n}",
+    ),
+    "print": ('    print!(rt; "{x:016x}")?;', '    print!(rt; "{x:016x}")?;'),
     "a string over lines": (
         'fn f() {\n    g(b\'"\', b"x", b"a\\\n        ghost use x;\\\nstruct S;\\"\\\n    b");\n}',
         'fn f() {\n    g(b\'"\', b"x", b"a\\\n        ghost use x;\\\nstruct S;\\"\\\n    b");\n}',
     ),
     "a lifetime": (
-        "pub struct R<'a> {\n    x: &'a [u8],\n}\nfn f<'a>(x: &'a u8, y: u8) -> R<'a>\n    ensures { λ r. ⌜ r ≡ x ⌝ }\n{\n    g(y <b'a', '\"')\n}",
-        "#[derive(Clone, Copy)]\npub struct R<'a> {\n    x: &'a [u8],\n}\nfn f<'a>(x: &'a u8, y: u8) -> R<'a>\n{\n    g(y <b'a', '\"')\n}",
+        "struct R<'a> {\n    x: &'a [u8],\n}\nfn f<'a>(x: &'a u8, y: u8) -> R<'a>\n    ensures { result ≡ x }\n{\n    g(y <b'a', '\"')\n}",
+        "struct R<'a> {\n    x: &'a [u8],\n}\nfn f<'a>(x: &'a u8, y: u8) -> R<'a>\n{\n    g(y <b'a', '\"')\n}",
     ),
-    "a comment": ("// ghost, unsafe, ⌜ and #[x]", "// ghost, unsafe, ⌜ and #[x]"),
+    "a comment": ("// ghost, unsafe, ≡ and #[x]", "// ghost, unsafe, ≡ and #[x]"),
 }
 
 # Texts at which it stops: each would lose something, or is not plain code.
@@ -41,20 +57,37 @@ BAD = {
     "an indented ghost line": "    ghost use a.b;",
     "code after a ghost line": "ghost use a.b; use c::D;",
     "a ghost line without an end": "ghost use a.b.{c,",
-    "a contract in a body": "fn f() {\n    ensures { λ r. ⌜ x ⌝ }\n}",
-    "a contract before a head": "    ensures { λ r. ⌜ x ⌝ }\nfn f()\n{\n}",
-    "a contract without an end": "fn f()\n    ensures { λ r. ⌜ x\n{\n    g();\n    ⌝ }\n}",
-    "a contract that runs into the body": "fn f()\n    ensures { λ r. ⌜ x\n    g(); ⌝ }\n{\n}",
-    "a contract at the end of the file": "fn f()\n    ensures { λ r. ⌜ x",
-    "a body on a contract's line": "fn f()\n    ensures { λ r. ⌜ x ⌝ } {\n    g();\n}",
-    "code between two contracts": "fn f()\n    ensures { λ r. ⌜ x ⌝ } g(); ensures { λ r. ⌜ y ⌝ }\n{\n}",
-    "code after a contract": "fn f()\n    ensures { λ r. ⌜ x ⌝ }\n    g();\n{\n}",
-    "a body at another place": "fn f()\n    ensures { λ r. ⌜ x ⌝ }\n    {\n}",
-    "a contract at another place": "fn f()\n        ensures { λ r. ⌜ x ⌝ }\n{\n}",
-    "a contract of another form": "fn f()\n    requires { do ⌜ x ⌝ }\n{\n}",
-    "a contract on a head's line": "fn f() requires { ⌜ x ⌝ } {\n}",
+    "code after a tactic": "#[tactic(auto)] fn f() {\n}",
+    "a tactic over lines": "#[tactic(\n    auto,\n)]\nfn f() {\n}",
+    "an attribute after a tactic": "#[tactic(auto)] #[x]\nfn f() {\n}",
+    "a contract in a body": "fn f() {\n    ensures { x }\n}",
+    "a contract before a head": "    ensures { x }\nfn f()\n{\n}",
+    "a contract without an end": "fn f()\n    ensures { x\n{\n    g();\n    }\n}",
+    "a contract that runs into the body": "fn f()\n    ensures { x\n    g(); }\n{\n}",
+    "a contract at the end of the file": "fn f()\n    ensures { x",
+    "a contract that opens a brace more": "fn f()\n    ensures { x { y }\n{\n}",
+    "a contract that closes a brace more": "fn f()\n    ensures { x } }\n{\n}",
+    "a body on a contract's line": "fn f()\n    ensures { x } {\n    g();\n}",
+    "two contracts on a line": "fn f()\n    ensures a { x } ensures b { y }\n{\n}",
+    "code between two contracts": "fn f()\n    ensures { x } g(); ensures { y }\n{\n}",
+    "code after a contract": "fn f()\n    ensures { x }\n    g();\n{\n}",
+    "code after a contract of two lines": "fn f()\n    ensures { x\n        y } g();\n{\n}",
+    "a body at another place": "fn f()\n    ensures { x }\n    {\n}",
+    "a contract at another place": "fn f()\n        ensures { x }\n{\n}",
+    "a contract of another form": "fn f()\n    requires a b { x }\n{\n}",
+    "a contract of memory": "fn f()\n    requires* { x }\n{\n}",
+    "a contract with no space at its end": "fn f()\n    requires { x}\n{\n}",
+    "a contract on a head's line": "fn f() requires { x } {\n}",
+    "a comment in a contract": "fn f()\n    ensures { x // {\n        }\n        g(); }\n{\n}",
+    "a comment of a definition in a contract": "fn f()\n    ensures { x -- {\n        }\n        g(); }\n{\n}",
+    "a comment over lines in a contract": "fn f()\n    ensures { x {- { -}\n        }\n        g(); }\n{\n}",
+    "a string in a contract": "fn f()\n    ensures { x \"{\"\n        }\n        g(); }\n{\n}",
+    "a brace as a sign in a contract": "fn f()\n    ensures { x '{'\n        }\n        g(); }\n{\n}",
     "another clause": "fn f()\n    decreases { n }\n{\n}",
     "a clause of a loop": "    while i < n\n        invariant { x }\n    {",
+    "a derive that is not known": "#[derive(Clone, Other)]\nstruct S(u8);",
+    "a derive before a function": "#[derive(Drop)]\nfn f() {\n}",
+    "a derive on a type's line": "#[derive(Drop)] struct S(u8);",
     "a string that is open at the end of a line": '    g(b"a\\\nghost use x;\ncd");',
     "a string that is not closed": '    g(b"ab\\',
     "code after a string over lines": '    g(b"a\\\n    b"); unsafe { h() };',
@@ -74,11 +107,16 @@ BAD = {
     "a foreign function": 'extern "C" {\n    fn read();\n}',
     "another file": "mod other;",
     "a macro": "    assert!(x);",
-    "no_mangle elsewhere": "#[no_mangle]\npub fn f() {\n}",
-    "an export without no_mangle": 'pub extern "C" fn f()\n{\n}',
-    "an export without parameters": '#[no_mangle]\npub extern "C" fn f() -> u8\n{\n}',
-    "a comment in an export's head": '#[no_mangle]\npub extern "C" fn f(\n    // x: u8,\n    y: u8,\n) -> u8\n{\n}',
-    "an export of another result": '#[no_mangle]\npub extern "C" fn f(x: u8) -> Mask\n{\n}',
+    "print of another form": '    print!("x");',
+    "print on another handle": '    print!(out; "x")?;',
+    "another macro within print": '    print!(rt; "{}", format!("x"))?;',
+    "a macro that ends as print": '    eprint!(rt; "x")?;',
+    "no_mangle elsewhere": "#[unsafe(no_mangle)]\npub fn f() {\n}",
+    "no_mangle of another form": '#[no_mangle]\npub extern "C" fn f(x: u8) -> u8\n{\n}',
+    "an export without no_mangle": 'pub extern "C" fn f(x: u8) -> u8\n{\n}',
+    "an export without parameters": '#[unsafe(no_mangle)]\npub extern "C" fn f() -> u8\n{\n}',
+    "a comment in an export's head": '#[unsafe(no_mangle)]\npub extern "C" fn f(\n    // x: u8,\n    y: u8,\n) -> u8\n{\n}',
+    "an export of another result": '#[unsafe(no_mangle)]\npub extern "C" fn f(x: u8) -> Mask\n{\n}',
 }
 
 # Parameters of an export that the shim does not know.
@@ -110,6 +148,14 @@ def main():
         "        c_x::f(w, from_raw_parts(t, t_length), from_raw_parts_mut(b, b_length))\n    }"
     ):
         wrong.append("a shim")
+    if imported(["use a::B;", "use c::{D, E};", "use f::{", "    G,", "    H,", "};"]) != {
+        "B": "a::B",
+        "D": "c::D",
+        "E": "c::E",
+        "G": "f::G",
+        "H": "f::H",
+    }:
+        wrong.append("use lines")
     if wrong:
         sys.exit(f"translate_test: WRONG: {', '.join(wrong)}")
     print(f"translator: {len(GOOD)} forms as expected, stops at {len(BAD) + len(BAD_PARAMETERS)} others")
