@@ -1,0 +1,7 @@
+-- `command` meets its contract.
+use Rattle.consoleline.proofs.Laws.{answered_command}
+use borrow.Author.Rules.{rules}
+use Rattle.consoleline.proofs.command.Goals as goal
+
+pub returns : goal.returns
+returns c = answered_command c.command.result c.command.ensures c.said.ensures

@@ -1,0 +1,16 @@
+-- `said` meets its contract.
+use Prim.Native.Nat.{ℕ}
+use mathlib.Core.Path.{sym, ap}
+use Rattle.rules.specs.Commands.{answered}
+use Rattle.rules.specs.declared.Answer.{Answer}
+use Rattle.answerline.specs.Answers.{said_line, command_line}
+use borrow.Author.Rules.{rules}
+use Rattle.consoleline.proofs.said.Goals as goal
+
+pub returns-in-Done : goal.returns-in-Done
+unfolding said_line answered
+returns-in-Done c = sym (ap (λ (a : Answer). command_line (answered a)) c.in-Done.is)
+
+pub returns-in-Refused : goal.returns-in-Refused
+unfolding said_line answered
+returns-in-Refused c = sym (ap (λ (a : Answer). command_line (answered a)) c.in-Refused.is)
