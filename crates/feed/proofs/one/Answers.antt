@@ -1,0 +1,8 @@
+-- `one` meets its contract.
+use native.Mathlib.Omega.{arith}
+use Rattle.feed.proofs.Laws.{one_put}
+use borrow.Author.Rules.{rules}
+use Rattle.feed.proofs.one.Goals as goal
+
+pub returns : goal.returns
+returns c = one_put c.obey_piece-said.result c.obey_piece-said.ensures c.put.ensures c.requires
