@@ -11,7 +11,7 @@ use lib.Seq.{paste, take-length}
 use borrow.Author.Tests.{le-leb}
 use Rattle.errno.specs.Errno.{number_of}
 use Rattle.errno.specs.declared.Errno.TheVariants.{Enospc}
-use Rattle.layout.specs.Carried.{Memory, read}
+use Rattle.layout.specs.Carried.{Memory}
 use Rattle.answerline.specs.Answers.{longest, Put}
 use Rattle.linetext.specs.Lines.{line_request}
 use Rattle.consoleline.specs.Answering.{answer_line, Answered}

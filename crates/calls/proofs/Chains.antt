@@ -3,7 +3,7 @@
 use Prim.Native.Nat.{ℕ, ◌+◌, ◌*◌, ◌%◌, ◌<◌}
 use native.Mathlib.Omega.{arith}
 use mathlib.Core.Bool.{Bool, true, false, cond, ◌&&◌}
-use mathlib.Core.List.{List, [], ◌∷◌, ◌++◌}
+use mathlib.Core.List.{List, [], ◌∷◌}
 use mathlib.Core.Path.{◌≡◌, refl, sym, ap, ap₂, subst, ◌∙◌}
 use lib.Dec.{leb}
 use Rattle.errno.specs.declared.Errno.TheVariants.{Einval}
@@ -12,7 +12,6 @@ use Rattle.errno.specs.Outcome.{granted, refused}
 use Rattle.rules.specs.declared.Answer.{Answer}
 use Rattle.rules.specs.State.{Limits, fresh}
 use Rattle.rules.specs.Queues as Queues
-use Rattle.rules.specs.Commands as Commands
 use Rattle.rules.specs.Commands.{answered, errno_of, state_after}
 use Rattle.layout.specs.Layout.{state_in}
 use Rattle.layout.specs.Carried.{Memory, read, Carried}

@@ -1,10 +1,10 @@
 -- Words of a configuration that are good, and the first that is bad.
 -- Assumes nothing.
-use Prim.Native.Nat.{ℕ, suc, ◌+◌, ◌-◌, ◌≤◌, ◌<◌}
+use Prim.Native.Nat.{ℕ, ◌+◌, ◌≤◌, ◌<◌}
 use native.Mathlib.Omega.{arith}
 use mathlib.Core.Bool.{Bool, true, false, cond, true≢false}
 use mathlib.Core.List.{List, [], ◌∷◌}
-use mathlib.Core.Path.{◌≡◌, refl, sym, ap, subst, ◌∙◌}
+use mathlib.Core.Path.{◌≡◌, sym, ap, subst, ◌∙◌}
 use lib.ListN.{length, drop}
 use borrow.Author.Tests.{ne_eqb}
 use Rattle.errno.specs.Outcome.{Outcome, granted, refused}
@@ -17,7 +17,7 @@ use Rattle.split.specs.Cut.{cut, end_from, piece_from}
 use Rattle.split.proofs.Laws.{cut_next, cut_end, cut_some, cut_one, cut_two, cut_three}
 use Rattle.hexbytes.specs.HexBytes.{types_text}
 use Rattle.configtext.specs.declared.ConfigRead.{ConfigRead}
-use Rattle.configtext.specs.ConfigText.{when_good, hex_text, mask_with, four_text, config_text, config_read, no_config, Reads}
+use Rattle.configtext.specs.ConfigText.{when_good, hex_text, mask_with, four_text, config_text, config_read, Reads}
 
 -- a mask is the one with its bits
 pub mask_is : (m : Mask) → Sized 64 4 m.words → m ≡ mask_with (bits m)

@@ -1,12 +1,11 @@
 -- A part of an input, line by line; and the parts of an input together.
 -- Assumes nothing.
 use Prim.Native.Nat.{ℕ, ◌+◌, ◌-◌, ◌*◌, ◌≤◌, ◌<◌, min}
-use native.Mathlib.Nat.{zero-add}
 use native.Mathlib.Omega.{arith}
 use mathlib.Core.Bool.{Bool, cond}
-use mathlib.Core.List.{List, [], ◌∷◌, ◌++◌, map, append-nil}
+use mathlib.Core.List.{List, [], ◌∷◌, ◌++◌}
 use mathlib.Core.Path.{◌≡◌, refl, sym, ap, ap₂, subst, ◌∙◌}
-use lib.ListN.{length, take, drop, length-take}
+use lib.ListN.{length, take, drop}
 use lib.Seq.{paste, length-paste, length-take-le, take-take}
 use borrow.Author.Tests.{le-leb}
 use Rattle.errno.specs.Outcome.{Outcome}
@@ -25,7 +24,6 @@ use Rattle.split.specs.Cut.{cut, onto, end_from, piece_from}
 use Rattle.split.proofs.Laws.{cut_one, cut_end, cut_some, end_within}
 use Rattle.linetext.specs.Lines.{piece_request, line_request}
 use Rattle.consoleline.specs.Answering.{Answered}
-use Rattle.consoleline.proofs.Laws.{asked_as}
 use Rattle.feed.specs.declared.Fed.{Fed}
 use Rattle.feed.specs.declared.Reached.{Reached}
 use Rattle.feed.specs.Input.{finished, unfinished, last_line, ended_in, begun_in, lines_of, read_as, most_kept, kept, Played, Taken, output, last_state, Whole}

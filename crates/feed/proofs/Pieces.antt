@@ -1,13 +1,13 @@
 -- The lines that bytes end and the line that they begin, when more bytes follow; and what is kept of a line.
 -- Assumes nothing.
-use Prim.Native.Nat.{ℕ, suc, ◌+◌, ◌-◌, ◌≤◌, ◌<◌, min}
+use Prim.Native.Nat.{ℕ, ◌+◌, ◌-◌, ◌≤◌, ◌<◌, min}
 use native.Mathlib.Omega.{arith}
 use mathlib.Core.Bool.{Bool, true, false, cond}
 use mathlib.Core.List.{List, [], ◌∷◌, ◌++◌, append-nil, append_assoc}
 use mathlib.Core.Path.{◌≡◌, refl, sym, ap, ap₂, ◌∙◌}
 use lib.Dec.{eqb, leb}
-use lib.ListN.{length, take, drop, length-append, length-take}
-use lib.Seq.{paste, take_all, take-take, take-append-le, take-append-add, take-paste, length-take-le}
+use lib.ListN.{length, take, drop, length-append}
+use lib.Seq.{take_all, take-take, take-append-le, take-append-add, take-paste, length-take-le}
 use borrow.Author.Tests.{leb-true, leb-false, lt-leb}
 use Rattle.split.specs.Cut.{onto, cut, holds, end_from, piece_from}
 use Rattle.split.proofs.Laws.{cut_next, cut_end, cut_some, piece_free}

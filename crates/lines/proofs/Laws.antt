@@ -7,8 +7,8 @@ use native.Mathlib.Omega.{arith}
 use mathlib.Core.Path.{◌≡◌, refl, sym, ap, ap₂, ◌∙◌}
 use mathlib.Core.Bool.{Bool, true, false, cond}
 use mathlib.Core.List.{List, [], ◌∷◌, ◌++◌, append-nil, append_assoc}
-use lib.ListN.{length, get_or, set, take, drop, length-append, length-drop}
-use lib.Seq.{paste, paste-suc, take_all, take_at, drop_at, drop-drop, append_snoc}
+use lib.ListN.{length, take, drop, length-append, length-drop}
+use lib.Seq.{take_all, take_at, drop_at, drop-drop, append_snoc}
 use borrow.Author.Tests.{le-leb, lt-leb}
 use Rattle.mask.specs.Bits.{Bits, count_below}
 use Rattle.mask.proofs.Laws.{count_cong, count_add}

@@ -4,7 +4,7 @@ use Prim.Native.Nat.{ℕ}
 use native.Mathlib.Omega.{arith}
 use mathlib.Core.Bool.{Bool, true, false, cond}
 use mathlib.Core.List.{List, [], ◌∷◌}
-use mathlib.Core.Path.{◌≡◌, refl, sym, ap, subst, ◌∙◌}
+use mathlib.Core.Path.{◌≡◌, refl, ap, subst, ◌∙◌}
 use lib.Dec.{eqb, leb}
 use lib.ListN.{length, drop}
 use Rattle.errno.specs.Outcome.{Outcome, granted, refused}
@@ -16,7 +16,6 @@ use Rattle.number.specs.Text.{number_rule, number_text}
 use Rattle.masktext.specs.Text.{hex_mask, signed, item, and_then, items, parts, mask_text}
 use Rattle.rules.specs.declared.Id.{Id}
 use Rattle.rules.specs.declared.Kind.{Kind}
-use Rattle.rules.specs.declared.Configuration.{Configuration}
 use Rattle.rules.specs.Queues.{most_moves}
 use Rattle.model.specs.Steps.{Command, create, remove, open_it, close_it, assign, unassign, set_apmask, set_aqmask, configure}
 use Rattle.encoding.specs.Encoding.{Request, command, move, sweep}
@@ -24,7 +23,7 @@ use Rattle.split.specs.Cut.{cut, holds}
 use Rattle.hexbytes.specs.HexBytes.{id_text}
 use Rattle.configtext.specs.ConfigText.{when_good, config_text}
 use Rattle.wordtext.specs.Words.{is, bad, kind_text, byte_text}
-use Rattle.linewords.specs.Requests.{for_id, for_mask, for_number, for_move, for_config, by_words}
+use Rattle.linewords.specs.Requests.{for_id, for_number, by_words}
 use Rattle.linetext.specs.Lines.{piece_request, line_request}
 use Rattle.linetext.specs.Texts.{Good, GoodText, OnlyGood}
 

@@ -1,6 +1,6 @@
 -- What follows for the control mask of a guest.
 -- Assumes nothing.
-use mathlib.Core.Bool.{Bool, true, false, ◌&&◌, ◌||◌, and-false, or-true, false≢true}
+use mathlib.Core.Bool.{Bool, true, false, ◌&&◌, and-false, or-true, false≢true}
 use mathlib.Core.Path.{◌≡◌, refl}
 use Rattle.mask.specs.Bits.{both, either}
 use Rattle.rules.specs.State.{State, Device}

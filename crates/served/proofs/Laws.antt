@@ -17,7 +17,6 @@ use Rattle.create.specs.Created.{created}
 use Rattle.devices.specs.Effects.{removed, opened, closed}
 use Rattle.host.specs.Masks.{with_apmask, with_aqmask}
 use Rattle.configure.specs.Configured.{configured}
-use Rattle.sweep.specs.declared.Swept.{Swept}
 use Rattle.sweep.specs.Sweeps.{Sweeping}
 use Rattle.model.specs.Steps.{Command, create, remove, open_it, close_it, assign, unassign, set_apmask, set_aqmask, configure, rule}
 use Rattle.model.specs.Steps as Steps
@@ -26,7 +25,7 @@ use Rattle.encoding.specs.Encoding.{command}
 use Rattle.request.specs.Requests.{Stepped}
 use Rattle.request.proofs.Laws.{obeyed}
 use Rattle.shown.specs.Shown.{SweepLeft}
-use Rattle.served.specs.Served.{Numbered, FreshServed, AssignServed, NumberAssigned, NumberUnassigned, SweepServed}
+use Rattle.served.specs.Served.{FreshServed, AssignServed, NumberAssigned, NumberUnassigned, SweepServed}
 
 -- an answer a, of which r is the number
 module _ {a : Answer} {r : ℕ} (f : r ≡ answered a) where

@@ -1,10 +1,10 @@
 -- What a part leaves in a buffer with room for all answers.
 -- Assumes nothing.
-use Prim.Native.Nat.{ℕ, ◌+◌, ◌/◌, ◌≤◌, ◌<◌, min}
+use Prim.Native.Nat.{ℕ, ◌≤◌, min}
 use native.Mathlib.Omega.{arith}
 use mathlib.Core.Bool.{Bool, true, false}
 use mathlib.Core.List.{List, [], ◌++◌, append-nil, append_assoc}
-use mathlib.Core.Path.{◌≡◌, refl, sym, ap, subst, ◌∙◌}
+use mathlib.Core.Path.{◌≡◌, refl, sym, ap, subst}
 use lib.Dec.{leb}
 use lib.ListN.{length, take, drop, length-append, length-take}
 use borrow.Author.Tests.{leb-true, leb-false}
@@ -15,7 +15,7 @@ use Rattle.encoding.specs.Encoding.{Request}
 use Rattle.answerline.specs.Answers.{longest}
 use Rattle.feed.specs.declared.Fed.{Fed}
 use Rattle.feed.specs.Input.{unfinished, output_of, most_kept, kept, Taken}
-use Rattle.feed.specs.Feeding.{Done, pieces, taken_of, Part, Feeding, Ending}
+use Rattle.feed.specs.Feeding.{Done, pieces, taken_of, Feeding, Ending}
 use Rattle.session.specs.Room.{most, room}
 use Rattle.session.specs.Sessions.{Passed}
 

@@ -1,7 +1,6 @@
 -- `admitted` meets its contract: what the two tests find, in their order.
 use mathlib.Core.Bool.{true, false}
 use mathlib.Core.Path.{refl}
-use borrow.Author.Rules.{rules}
 use Rattle.product.specs.Meet.{queues_of}
 use Rattle.admit.proofs.Laws.{found, by_tests}
 use Rattle.admit.proofs.admitted.Goals as goal

@@ -1,7 +1,6 @@
 -- `in_range` meets its contract.
 use mathlib.Core.Path.{ap}
 use lib.Dec.{leb}
-use borrow.Author.Rules.{rules}
 use Rattle.admit.proofs.in_range.Goals as goal
 
 pub returns : goal.returns

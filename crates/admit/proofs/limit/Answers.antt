@@ -1,6 +1,5 @@
 -- `limit` meets its contract.
 use mathlib.Core.Path.{sym, ap, ◌∙◌}
-use borrow.Author.Rules.{rules}
 use Rattle.rules.specs.declared.Kind.{Kind}
 use Rattle.rules.specs.Commands.{limit_of}
 use Rattle.layout.specs.Layout.{limits_in}

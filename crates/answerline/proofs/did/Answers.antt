@@ -1,6 +1,5 @@
 -- `did` meets its contract: the line says the move's word.
 use native.Mathlib.Omega.{arith}
-use borrow.Author.Rules.{rules}
 use Rattle.errno.specs.Ascii.{ascii}
 use Rattle.movednames.specs.Moves.{moved_word}
 use Rattle.answerline.specs.Answers.{move_line}

@@ -1,6 +1,5 @@
 -- `last` meets its contract: the newline stands after the text.
 use native.Mathlib.Omega.{arith}
-use borrow.Author.Rules.{rules}
 use Rattle.answerline.proofs.Laws.{added_both, added_byte}
 use Rattle.answerline.proofs.last.Goals as goal
 

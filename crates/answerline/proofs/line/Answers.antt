@@ -1,7 +1,6 @@
 -- `line` meets its contract: the second text and its newline stand after the first.
 use native.Mathlib.Omega.{arith}
 use mathlib.Core.List.{append_assoc}
-use borrow.Author.Rules.{rules}
 use Rattle.answerline.proofs.Laws.{added_both}
 use Rattle.answerline.proofs.line.Goals as goal
 

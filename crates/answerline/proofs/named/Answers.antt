@@ -1,7 +1,6 @@
 -- `named` meets its contract: the name is as long as it says.
 use native.Mathlib.Omega.{arith}
 use lib.Seq.{length-take-le}
-use borrow.Author.Rules.{rules}
 use Rattle.answerline.proofs.named.Goals as goal
 
 pub line-requires : goal.line-requires

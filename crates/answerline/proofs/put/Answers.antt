@@ -1,9 +1,8 @@
 -- `put` meets its contract: there is no room, or the line of the case is written.
 use native.Mathlib.Omega.{arith}
-use borrow.Author.Rules.{rules}
 use Rattle.errno.specs.Ascii.{ascii}
 use Rattle.answerline.specs.Answers.{said_line, command_line}
-use Rattle.answerline.proofs.Laws.{put_line, put_none}
+use Rattle.answerline.proofs.Laws.{put_line}
 use Rattle.answerline.proofs.put.Goals as goal
 
 pub returns-in-Done : goal.returns-in-Done

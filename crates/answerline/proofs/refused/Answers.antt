@@ -1,6 +1,5 @@
 -- `refused` meets its contract: the line says the case's name.
 use native.Mathlib.Omega.{arith}
-use borrow.Author.Rules.{rules}
 use Rattle.errno.specs.Ascii.{ascii}
 use Rattle.errno.specs.Errno.{name_of}
 use Rattle.answerline.proofs.Laws.{name_of_lem, refusal}

@@ -1,5 +1,4 @@
 -- `used` meets its contract: the line says the number's digits.
-use borrow.Author.Rules.{rules}
 use Rattle.errno.specs.Ascii.{ascii}
 use Rattle.answerline.specs.Answers.{sweep_line}
 use Rattle.answerline.proofs.Laws.{digits_of}

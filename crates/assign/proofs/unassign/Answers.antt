@@ -1,6 +1,5 @@
 -- `unassign` meets its contract: the number that the text says, or the refusal of bad text.
 use mathlib.Core.Path.{sym, ap, ◌∙◌}
-use borrow.Author.Rules.{rules}
 use Rattle.errno.specs.declared.Errno.TheVariants.{Einval}
 use Rattle.number.specs.Text.{outcome}
 use Rattle.assign.proofs.Laws.{unassigned_by, not_unassigned}

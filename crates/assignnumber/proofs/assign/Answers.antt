@@ -1,6 +1,5 @@
 -- `assign` meets its contract: the rule where the number goes.
 use mathlib.Core.Path.{sym, ◌∙◌}
-use borrow.Author.Rules.{rules}
 use Rattle.rules.specs.Commands.{assign_at}
 use Rattle.assignnumber.specs.Numbers.{assigned_to, assigned_at}
 use Rattle.assignnumber.proofs.Laws.{goes, at_located, not_located, exact}

@@ -2,7 +2,6 @@
 use Prim.Native.Nat.{ℕ}
 use mathlib.Core.Path.{sym, ap, ◌∙◌}
 use mathlib.Core.List.{List}
-use borrow.Author.Rules.{rules}
 use Rattle.mask.specs.Bits.{Bits, included}
 use Rattle.mask.proofs.Laws.{mask_words_lem}
 use Rattle.rules.specs.Commands.{assign_at, numbers_of, with_device, with_numbers}

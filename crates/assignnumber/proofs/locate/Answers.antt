@@ -1,7 +1,5 @@
 -- `locate` meets its contract: a return for each case.
-use mathlib.Core.Bool.{not, not-not}
 use mathlib.Core.Path.{refl, sym, ap, ◌∙◌}
-use borrow.Author.Rules.{rules}
 use borrow.Author.Tests.{lt-ltb, le-ltb}
 use Rattle.admit.proofs.Laws.{in_range_small}
 use Rattle.assignnumber.specs.declared.Located.TheVariants.{At}

@@ -1,6 +1,5 @@
 -- `unassign` meets its contract: the rule where the number goes.
 use mathlib.Core.Path.{sym, ◌∙◌}
-use borrow.Author.Rules.{rules}
 use Rattle.rules.specs.Commands.{unassign_at}
 use Rattle.assignnumber.specs.Numbers.{unassigned_from, unassigned_at}
 use Rattle.assignnumber.proofs.Laws.{goes, at_located, not_located}

@@ -1,6 +1,5 @@
 -- `unassign_at` meets its contract.
 use mathlib.Core.Path.{refl, ap, ◌∙◌}
-use borrow.Author.Rules.{rules}
 use Rattle.mask.specs.Bits.{excluded}
 use Rattle.mask.proofs.Laws.{mask_words_lem}
 use Rattle.rules.specs.Commands.{unassign_at, numbers_of, with_device, with_numbers}

@@ -8,7 +8,6 @@ use Rattle.rules.specs.Queues.{moved}
 use Rattle.rules.specs.State.{apqn}
 use Rattle.bind.specs.Moves.{bytes_after, Moving}
 use Rattle.bind.proofs.Laws.{answer_read, moving}
-use borrow.Author.Rules.{rules}
 use Rattle.bind.proofs.move_queue.Goals as goal
 use Rattle.bind.proofs.move_queue.Goals.{After-moved_by-m}
 

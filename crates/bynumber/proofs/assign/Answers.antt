@@ -1,5 +1,4 @@
 -- `assign` meets its contract.
-use borrow.Author.Rules.{rules}
 use Rattle.served.proofs.Laws.{number_assigned}
 use Rattle.bynumber.proofs.assign.Goals as goal
 

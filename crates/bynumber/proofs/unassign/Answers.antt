@@ -1,5 +1,4 @@
 -- `unassign` meets its contract.
-use borrow.Author.Rules.{rules}
 use Rattle.served.proofs.Laws.{number_unassigned}
 use Rattle.bynumber.proofs.unassign.Goals as goal
 

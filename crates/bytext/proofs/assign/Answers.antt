@@ -1,5 +1,4 @@
 -- `assign` meets its contract.
-use borrow.Author.Rules.{rules}
 use Rattle.served.proofs.Laws.{assigned_as}
 use Rattle.bytext.proofs.assign.Goals as goal
 

@@ -1,5 +1,4 @@
 -- `unassign` meets its contract.
-use borrow.Author.Rules.{rules}
 use Rattle.served.proofs.Laws.{unassigned_as}
 use Rattle.bytext.proofs.unassign.Goals as goal
 

@@ -1,5 +1,4 @@
 -- `zk_raw_fresh` meets its contract.
-use borrow.Author.Rules.{rules}
 use Rattle.served.proofs.Laws.{freshened}
 use Rattle.c_devices.proofs.zk_raw_fresh.Goals as goal
 

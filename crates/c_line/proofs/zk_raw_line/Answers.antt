@@ -2,7 +2,6 @@
 use native.Mathlib.Omega.{arith}
 use Rattle.layout.specs.Carried.{memory}
 use Rattle.c_line.proofs.Laws.{served_not, served}
-use borrow.Author.Rules.{rules}
 use Rattle.c_line.proofs.zk_raw_line.Goals as goal
 
 pub returns-then-out-lt-LONGEST : goal.returns-then-out-lt-LONGEST

@@ -1,5 +1,4 @@
 -- `zk_raw_control_domains` meets its contract.
-use borrow.Author.Rules.{rules}
 use Rattle.c_look.proofs.zk_raw_control_domains.Goals as goal
 
 pub returns : goal.returns

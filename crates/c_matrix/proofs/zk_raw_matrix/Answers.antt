@@ -1,5 +1,4 @@
 -- `zk_raw_matrix` meets its contract.
-use borrow.Author.Rules.{rules}
 use Rattle.c_matrix.proofs.zk_raw_matrix.Goals as goal
 
 pub returns : goal.returns

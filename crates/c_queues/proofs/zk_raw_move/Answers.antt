@@ -1,5 +1,4 @@
 -- `zk_raw_move` meets its contract: that of its one call.
-use borrow.Author.Rules.{rules}
 use Rattle.c_queues.proofs.zk_raw_move.Goals as goal
 
 pub returns : goal.returns

@@ -1,6 +1,5 @@
 -- `zk_raw_usable` meets its contract.
 use mathlib.Core.Path.{ap, ◌∙◌}
-use borrow.Author.Rules.{rules}
 use Rattle.shown.specs.Shown.{bit}
 use Rattle.c_queues.proofs.zk_raw_usable.Goals as goal
 

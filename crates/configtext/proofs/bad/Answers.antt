@@ -1,6 +1,5 @@
 -- `bad` meets its contract.
 use mathlib.Core.Path.{refl}
-use borrow.Author.Rules.{rules}
 use Rattle.mask.proofs.Laws.{mask_words_lem}
 use Rattle.configtext.specs.ConfigText.{config_read}
 use Rattle.configtext.proofs.Laws.{mask_none}

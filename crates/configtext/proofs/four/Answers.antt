@@ -1,6 +1,5 @@
 -- `four` meets its contract.
 use borrow.Author.Tests.{not-true, not-false}
-use borrow.Author.Rules.{rules}
 use Rattle.mask.specs.Bits.{bits}
 use Rattle.mask.proofs.Laws.{mask_words_lem}
 use Rattle.masktext.specs.Text.{outcome}

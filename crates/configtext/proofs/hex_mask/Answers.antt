@@ -1,10 +1,9 @@
 -- `hex_mask` meets its contract.
 use mathlib.Core.Bool.{Bool, cond}
 use mathlib.Core.Path.{sym, ap, ◌∙◌}
-use borrow.Author.Rules.{rules}
 use Rattle.errno.specs.Outcome.{refused}
 use Rattle.errno.specs.declared.Errno.TheVariants.{Einval}
-use Rattle.mask.specs.Bits.{Bits, no_bits}
+use Rattle.mask.specs.Bits.{no_bits}
 use Rattle.masktext.specs.Text.{outcome, mask_text}
 use Rattle.configtext.specs.ConfigText.{hex_text}
 use Rattle.configtext.proofs.hex_mask.Goals as goal

@@ -2,7 +2,6 @@
 use native.Mathlib.Omega.{arith}
 use Rattle.split.proofs.Laws.{first_end, piece_end}
 use Rattle.configtext.proofs.Laws.{reads_bad, reads_as, one_word, two_words, three_words, many_words, four_words}
-use borrow.Author.Rules.{rules}
 use Rattle.configtext.proofs.read.Goals as goal
 
 pub returns-then-text-a : goal.returns-then-text-a

@@ -1,7 +1,6 @@
 -- `beyond` meets its contract: what the three tests find.
 use mathlib.Core.Bool.{true, false}
 use mathlib.Core.Path.{refl, sym, ◌∙◌}
-use borrow.Author.Rules.{rules}
 use Rattle.configure.proofs.Laws.{by_limits}
 use Rattle.configure.proofs.beyond.Goals as goal
 

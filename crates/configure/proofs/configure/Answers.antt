@@ -1,6 +1,5 @@
 -- `configure` meets its contract: a refusal, or the effect.
 use mathlib.Core.Path.{sym, ap, ◌∙◌}
-use borrow.Author.Rules.{rules}
 use Rattle.mask.specs.Bits.{Bits}
 use Rattle.rules.specs.State.{queues}
 use Rattle.layout.specs.Layout.{unbind}

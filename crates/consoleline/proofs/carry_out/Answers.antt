@@ -10,7 +10,6 @@ use Rattle.split.specs.Cut.{cut}
 use Rattle.linewords.specs.Requests.{for_config}
 use Rattle.answerline.specs.Answers.{said_line}
 use Rattle.consoleline.proofs.Laws.{asked_as, answered_bad, is_command, is_config, is_move, is_sweep, is_bad}
-use borrow.Author.Rules.{rules}
 use Rattle.consoleline.proofs.carry_out.Goals as goal
 
 pub returns-then-op-le-AQMASK : goal.returns-then-op-le-AQMASK

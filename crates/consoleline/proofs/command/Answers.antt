@@ -1,6 +1,5 @@
 -- `command` meets its contract.
 use Rattle.consoleline.proofs.Laws.{answered_command}
-use borrow.Author.Rules.{rules}
 use Rattle.consoleline.proofs.command.Goals as goal
 
 pub returns : goal.returns

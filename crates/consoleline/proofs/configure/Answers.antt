@@ -1,12 +1,10 @@
 -- `configure` meets its contract.
-use borrow.Author.Tests.{not-true}
 use Rattle.answerline.specs.Answers.{said_line}
 use Rattle.layout.specs.Carried.{memory}
 use Rattle.configtext.specs.ConfigText.{config_read}
 use Rattle.configtext.proofs.Laws.{told_good, told_bad}
 use Rattle.linewords.proofs.Laws.{when_good_lem, when_bad}
 use Rattle.consoleline.proofs.Laws.{asked_as, answered_bad, answered_config}
-use borrow.Author.Rules.{rules}
 use Rattle.consoleline.proofs.configure.Goals as goal
 
 pub returns-then-read : goal.returns-then-read

@@ -2,7 +2,6 @@
 use native.Mathlib.Omega.{arith}
 use Rattle.answerline.specs.Answers.{said_line}
 use Rattle.consoleline.proofs.Laws.{answered_move}
-use borrow.Author.Rules.{rules}
 use Rattle.consoleline.proofs.make_move.Goals as goal
 
 pub returns : goal.returns

@@ -2,7 +2,6 @@
 use Rattle.rules.specs.Queues.{most_moves}
 use Rattle.answerline.specs.Answers.{said_line}
 use Rattle.consoleline.proofs.Laws.{answered_sweep}
-use borrow.Author.Rules.{rules}
 use Rattle.consoleline.proofs.make_sweep.Goals as goal
 
 pub returns : goal.returns

@@ -1,7 +1,6 @@
 -- `obey_piece` meets its contract.
 use mathlib.Core.Path.{sym}
 use Rattle.consoleline.proofs.Laws.{asked_as}
-use borrow.Author.Rules.{rules}
 use Rattle.consoleline.proofs.obey_piece.Goals as goal
 
 pub returns : goal.returns

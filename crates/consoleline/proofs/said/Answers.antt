@@ -1,10 +1,8 @@
 -- `said` meets its contract.
-use Prim.Native.Nat.{ℕ}
 use mathlib.Core.Path.{sym, ap}
 use Rattle.rules.specs.Commands.{answered}
 use Rattle.rules.specs.declared.Answer.{Answer}
 use Rattle.answerline.specs.Answers.{said_line, command_line}
-use borrow.Author.Rules.{rules}
 use Rattle.consoleline.proofs.said.Goals as goal
 
 pub returns-in-Done : goal.returns-in-Done

@@ -2,7 +2,6 @@
 use Prim.Native.Nat.{ℕ}
 use native.Mathlib.Omega.{arith}
 use mathlib.Core.Path.{◌≡◌, refl, sym, ap, ◌∙◌}
-use borrow.Author.Rules.{rules}
 use Rattle.errno.specs.Errno.{number_of}
 use Rattle.errno.specs.declared.Errno.TheVariants.{Enoent}
 use Rattle.mask.specs.Bits.{bits}

@@ -1,10 +1,7 @@
 -- `write` meets its contract. The invariant: the domains before `coming` are done, and their lines stand in the first `at` bytes.
 use Prim.Native.Nat.{◌-◌}
-use native.Mathlib.Omega.{arith}
-use mathlib.Core.Path.{sym, ◌∙◌}
-use borrow.Author.Rules.{rules}
 use Rattle.mask.specs.Bits.{bits}
-use Rattle.controllist.proofs.Laws.{Sofar, sofar_start, sofar_skip, sofar_line, sofar_end}
+use Rattle.controllist.proofs.Laws.{Sofar}
 use Rattle.controllist.proofs.write.Given as goal
 
 abbrev pub invariant-loop-coming : goal.invariant-loop-coming

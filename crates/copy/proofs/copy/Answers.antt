@@ -1,7 +1,6 @@
 -- `copy` meets its contract: the bytes fit, or nothing is written.
 use native.Mathlib.Omega.{arith}
 use mathlib.Core.Path.{sym, ◌∙◌}
-use borrow.Author.Rules.{rules}
 use Rattle.copy.proofs.Laws.{copied_fits, copied_not}
 use Rattle.copy.proofs.copy.Goals as goal
 

@@ -1,11 +1,8 @@
 -- `fill` meets its contract. The invariant: the first i bytes are copied.
 use Prim.Native.Nat.{◌-◌, ◌≤◌}
-use native.Mathlib.Omega.{arith}
-use native.Mathlib.Numerals.{add-one}
-use mathlib.Core.Path.{◌≡◌, ap, ◌∙◌}
+use mathlib.Core.Path.{◌≡◌}
 use lib.ListN.{length}
-use lib.Seq.{paste, paste-zero, paste-suc}
-use borrow.Author.Rules.{rules}
+use lib.Seq.{paste}
 use Rattle.copy.proofs.fill.Given as goal
 
 abbrev pub invariant-loop-i : goal.invariant-loop-i

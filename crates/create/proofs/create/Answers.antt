@@ -3,7 +3,6 @@ use Prim.Native.Nat.{ℕ}
 use mathlib.Core.List.{List}
 use mathlib.Core.Bool.{true}
 use mathlib.Core.Path.{refl, sym, ap, ◌∙◌}
-use borrow.Author.Rules.{rules}
 use Rattle.errno.specs.declared.Errno.TheVariants.{Eexist, Enospc}
 use Rattle.rules.specs.Commands.{create, with_device, new_device}
 use Rattle.layout.specs.Layout.{state_in, put_device}

@@ -1,7 +1,6 @@
 -- `write` meets its contract. The invariant: the digits from an index on are written.
 use native.Mathlib.Omega.{arith}
-use borrow.Author.Rules.{rules}
-use Rattle.decimal.proofs.Laws.{Sofar, sofar_start, sofar_room, sofar_digit, sofar_end}
+use Rattle.decimal.proofs.Laws.{sofar_start, sofar_room, sofar_digit, sofar_end}
 use Rattle.decimal.proofs.write.Goals as goal
 
 pub loop-rest-init : goal.loop-rest-init

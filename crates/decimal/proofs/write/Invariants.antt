@@ -1,7 +1,5 @@
 -- `write` meets its contract. The invariant: the digits from an index on are written.
-use native.Mathlib.Omega.{arith}
-use borrow.Author.Rules.{rules}
-use Rattle.decimal.proofs.Laws.{Sofar, sofar_start, sofar_room, sofar_digit, sofar_end}
+use Rattle.decimal.proofs.Laws.{Sofar}
 use Rattle.decimal.proofs.write.Given as goal
 
 abbrev pub invariant-loop-rest : goal.invariant-loop-rest

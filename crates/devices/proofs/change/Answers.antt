@@ -2,7 +2,6 @@
 use mathlib.Core.Bool.{Bool, beq, true, false}
 use mathlib.Core.Path.{sym, ap, ◌∙◌}
 use borrow.Author.Tests.{not-true, not-false}
-use borrow.Author.Rules.{rules}
 use Rattle.devices.proofs.Laws.{change_unknown, change_refused, change_done}
 use Rattle.devices.proofs.change.Goals as goal
 

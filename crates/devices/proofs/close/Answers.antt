@@ -1,5 +1,4 @@
 -- `close` meets its contract, by `change`.
-use borrow.Author.Rules.{rules}
 use Rattle.rules.specs.Commands.{close_device}
 use Rattle.devices.specs.Effects.{changing, changed}
 use Rattle.devices.proofs.close.Goals as goal

@@ -1,5 +1,4 @@
 -- `open` meets its contract, by `change`.
-use borrow.Author.Rules.{rules}
 use Rattle.rules.specs.Commands.{open_device}
 use Rattle.devices.specs.Effects.{changing, changed}
 use Rattle.devices.proofs.open.Goals as goal

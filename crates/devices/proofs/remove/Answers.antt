@@ -1,5 +1,4 @@
 -- `remove` meets its contract, by `change`.
-use borrow.Author.Rules.{rules}
 use Rattle.rules.specs.Commands.{remove}
 use Rattle.devices.specs.Effects.{changing, changed}
 use Rattle.devices.proofs.remove.Goals as goal

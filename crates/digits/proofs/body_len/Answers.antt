@@ -3,7 +3,6 @@ use native.Mathlib.Omega.{arith}
 use mathlib.Core.Path.{sym}
 use lib.Seq.{length-take-le}
 use borrow.Author.Tests.{eq-eqb, ne_eqb}
-use borrow.Author.Rules.{rules}
 use Rattle.digits.specs.Digits.{body}
 use Rattle.digits.proofs.Laws.{body_le}
 use Rattle.digits.proofs.body_len.Goals as goal

@@ -1,8 +1,7 @@
 -- `digit_of` meets its contract: a return for each range of bytes, and 16 outside them.
 use native.Mathlib.Omega.{arith}
-use mathlib.Core.Logic.{inl, inr, ⊎_elim}
+use mathlib.Core.Logic.{inl, inr}
 use borrow.Author.Tests.{le-leb}
-use borrow.Author.Rules.{rules}
 use Rattle.digits.specs.Digits.{digit_of}
 use Rattle.digits.proofs.Laws.{outside}
 use Rattle.digits.proofs.digit_of.Goals as goal

@@ -5,7 +5,6 @@ use mathlib.Core.Path.{sym}
 use lib.ListN.{get_or, get_or-eq_default}
 use lib.Dec.{eqb}
 use borrow.Author.Tests.{eq-eqb, ne_eqb}
-use borrow.Author.Rules.{rules}
 use Rattle.digits.specs.Digits.{starts_hex}
 use Rattle.digits.proofs.starts_hex.Goals as goal
 

@@ -12,7 +12,7 @@ returns c =
     let a = c.args in
     ap (set a.drivers.now (a.adapter.0 * 256 + a.domain.0))
     (elim c.match-driver.branch [
-      in-Unbound w ↦ w.b-is ∙ sym (ap byte_of w.in-Unbound.is) |
-      in-Host w ↦ w.b-is ∙ sym (ap byte_of w.in-Host.is) |
-      in-Passthrough w ↦ w.b-is ∙ sym (ap byte_of w.in-Passthrough.is)
+      | in-Unbound w ↦ w.b-is ∙ sym (ap byte_of w.in-Unbound.is)
+      | in-Host w ↦ w.b-is ∙ sym (ap byte_of w.in-Host.is)
+      | in-Passthrough w ↦ w.b-is ∙ sym (ap byte_of w.in-Passthrough.is)
     ])

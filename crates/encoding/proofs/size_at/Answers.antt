@@ -3,7 +3,6 @@ use Prim.Native.Nat.{◌+◌}
 use native.Mathlib.Omega.{arith}
 use mathlib.Core.Path.{sym}
 use Rattle.encoding.proofs.Laws.{none_left, part_left, whole_left}
-use borrow.Author.Rules.{rules}
 use Rattle.encoding.proofs.size_at.Goals as goal
 
 pub returns-then-bytes-at : goal.returns-then-bytes-at

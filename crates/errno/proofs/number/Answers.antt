@@ -1,7 +1,6 @@
 -- `number` meets its contract, by the table's rule.
 use native.Mathlib.Omega.{arith}
 use mathlib.Core.Path.{ap}
-use borrow.Author.Rules.{rules}
 use Rattle.errno.specs.Ascii.{ascii}
 use Rattle.errno.specs.Errno.{number_of, name_of, cases}
 use Rattle.errno.proofs.Table.{Entry, entry_of, right, row_below}

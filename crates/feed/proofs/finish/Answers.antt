@@ -2,7 +2,6 @@
 use native.Mathlib.Omega.{arith}
 use Rattle.layout.specs.Carried.{memory}
 use Rattle.feed.proofs.Laws.{ends_short, ends_none, ends_line}
-use borrow.Author.Rules.{rules}
 use Rattle.feed.proofs.finish.Goals as goal
 
 pub returns-then-out-lt-LONGEST : goal.returns-then-out-lt-LONGEST

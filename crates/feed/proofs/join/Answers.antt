@@ -4,7 +4,6 @@ use native.Mathlib.Omega.{arith}
 use mathlib.Core.Path.{sym, ap, ◌∙◌}
 use lib.Seq.{length-take-le}
 use Rattle.feed.proofs.Laws.{join_copied}
-use borrow.Author.Rules.{rules}
 use Rattle.feed.proofs.join.Goals as goal
 
 pub returns : goal.returns

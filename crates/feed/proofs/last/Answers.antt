@@ -3,7 +3,6 @@ use native.Mathlib.Omega.{arith}
 use lib.Seq.{length-take-le}
 use mathlib.Core.Path.{sym}
 use Rattle.feed.proofs.Laws.{one_put}
-use borrow.Author.Rules.{rules}
 use Rattle.feed.proofs.last.Goals as goal
 
 pub slice_bounds-obey-end : goal.slice_bounds-obey-end

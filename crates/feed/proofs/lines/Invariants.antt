@@ -1,11 +1,8 @@
 -- `lines` meets its contract. The invariant: what the whole comes to is what was done, and what the lines from `at` on come to.
-use native.Mathlib.Omega.{arith}
 use Prim.Native.Nat.{◌-◌}
 use lib.ListN.{length}
 use Rattle.layout.specs.Carried.{memory}
-use Rattle.split.proofs.Laws.{piece_end}
-use Rattle.feed.proofs.Laws.{Sofar, starts, room_left, less_left, goes_on, ends}
-use borrow.Author.Rules.{rules}
+use Rattle.feed.proofs.Laws.{Sofar}
 use Rattle.feed.proofs.lines.Given as goal
 
 abbrev pub invariant-loop-line : goal.invariant-loop-line

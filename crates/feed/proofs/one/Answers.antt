@@ -1,7 +1,5 @@
 -- `one` meets its contract.
-use native.Mathlib.Omega.{arith}
 use Rattle.feed.proofs.Laws.{one_put}
-use borrow.Author.Rules.{rules}
 use Rattle.feed.proofs.one.Goals as goal
 
 pub returns : goal.returns

@@ -2,7 +2,7 @@
 use Prim.Native.Nat.{ℕ, ◌+◌, ◌-◌, min}
 use native.Mathlib.Omega.{arith}
 use mathlib.Core.List.{List}
-use mathlib.Core.Path.{sym, ap, ◌∙◌}
+use mathlib.Core.Path.{ap, ◌∙◌}
 use lib.ListN.{length}
 use Rattle.layout.specs.Carried.{memory}
 use Rattle.split.proofs.Laws.{first_end}
@@ -10,7 +10,6 @@ use Rattle.consoleline.proofs.Laws.{rest_within}
 use Rattle.feed.specs.Input.{most_kept}
 use Rattle.feed.specs.Feeding.{joined_at}
 use Rattle.feed.proofs.Laws.{part_begun, part_ended}
-use borrow.Author.Rules.{rules}
 use Rattle.feed.proofs.take_part.Goals as goal
 
 pub returns-then-part-e : goal.returns-then-part-e

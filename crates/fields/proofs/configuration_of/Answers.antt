@@ -1,6 +1,5 @@
 -- `configuration_of` meets its contract.
 use Rattle.fields.specs.Fields.{configuration_of}
-use borrow.Author.Rules.{rules}
 use Rattle.fields.proofs.configuration_of.Goals as goal
 
 pub returns : goal.returns

@@ -1,7 +1,6 @@
 -- `half_at` meets its contract.
 use native.Mathlib.Omega.{arith}
 use Rattle.fields.specs.Fields.{half_at}
-use borrow.Author.Rules.{rules}
 use Rattle.fields.proofs.half_at.Goals as goal
 
 pub returns-then-at-bytes : goal.returns-then-at-bytes

@@ -2,7 +2,6 @@
 use Prim.Native.Nat.{ℕ}
 use mathlib.Core.Path.{ap₂}
 use Rattle.fields.specs.Fields.{id_of}
-use borrow.Author.Rules.{rules}
 use Rattle.fields.proofs.id_of.Goals as goal
 
 pub returns : goal.returns

@@ -1,13 +1,7 @@
 -- `mask_of` meets its contract. The invariant: each byte up to i is the right one.
 use Prim.Native.Nat.{ℕ, ◌+◌, ◌-◌, ◌≤◌, ◌<◌}
-use native.Mathlib.Omega.{arith}
-use mathlib.Core.Path.{◌≡◌, ◌∙◌}
-use lib.ListN.{length, get_or, set}
-use lib.Seq.{get_or-set_same, get_or-set_other}
-use borrow.Author.Count.{below_more}
-use Rattle.mask.proofs.Laws.{mask_words_lem}
-use Rattle.fields.proofs.Laws.{same_mask}
-use borrow.Author.Rules.{rules}
+use mathlib.Core.Path.{◌≡◌}
+use lib.ListN.{length, get_or}
 use Rattle.fields.proofs.mask_of.Given as goal
 
 abbrev pub invariant-loop-i : goal.invariant-loop-i

@@ -1,7 +1,6 @@
 -- `word_at` meets its contract.
 use native.Mathlib.Omega.{arith}
 use Rattle.fields.specs.Fields.{word_at}
-use borrow.Author.Rules.{rules}
 use Rattle.fields.proofs.word_at.Goals as goal
 
 pub returns : goal.returns

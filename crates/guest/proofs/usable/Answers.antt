@@ -1,8 +1,6 @@
 -- `usable` meets its contract.
 use mathlib.Core.Path.{refl, sym, ap, ◌∙◌}
 use mathlib.Core.Bool.{true, false}
-use borrow.Author.Rules.{rules}
-use borrow.Author.Tests.{not-true, not-false}
 use Rattle.rules.specs.State.{apqn}
 use Rattle.rules.specs.Queues.{matrix_adapters, matrix_domains}
 use Rattle.product.specs.Meet.{queues_of}

@@ -1,9 +1,6 @@
 -- `fill` meets its contract. The invariant: what is found of the text up to byte i.
-use Prim.Native.Nat.{◌-◌}
 use native.Mathlib.Omega.{arith}
-use lib.ListN.{length}
-use Rattle.hexbytes.proofs.Laws.{Sofar, other_length, starts, bad_high, bad_low, goes_on, full}
-use borrow.Author.Rules.{rules}
+use Rattle.hexbytes.proofs.Laws.{other_length, starts, bad_high, bad_low, goes_on, full}
 use Rattle.hexbytes.proofs.fill.Goals as goal
 
 pub returns-then-s-out : goal.returns-then-s-out

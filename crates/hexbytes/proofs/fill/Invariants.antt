@@ -1,9 +1,7 @@
 -- `fill` meets its contract. The invariant: what is found of the text up to byte i.
 use Prim.Native.Nat.{◌-◌}
-use native.Mathlib.Omega.{arith}
 use lib.ListN.{length}
-use Rattle.hexbytes.proofs.Laws.{Sofar, other_length, starts, bad_high, bad_low, goes_on, full}
-use borrow.Author.Rules.{rules}
+use Rattle.hexbytes.proofs.Laws.{Sofar}
 use Rattle.hexbytes.proofs.fill.Given as goal
 
 abbrev pub invariant-loop-i : goal.invariant-loop-i

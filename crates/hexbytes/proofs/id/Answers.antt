@@ -1,6 +1,5 @@
 use mathlib.Core.Bool.{true≢false}
 use mathlib.Core.Path.{refl}
-use borrow.Author.Rules.{rules}
 use Rattle.fields.specs.Fields.{id_of}
 use Rattle.hexbytes.specs.HexBytes.{id_read, id_text}
 use Rattle.hexbytes.proofs.Laws.{read_good, read_bad}

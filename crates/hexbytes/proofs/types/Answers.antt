@@ -1,10 +1,8 @@
 -- `types` meets its contract.
 use mathlib.Core.Bool.{true≢false}
 use mathlib.Core.List.{List}
-use mathlib.Core.Path.{refl, sym, ap, ◌∙◌}
+use mathlib.Core.Path.{refl}
 use Prim.Native.Nat.{ℕ}
-use lib.ListN.{length}
-use borrow.Author.Rules.{rules}
 use Rattle.hexbytes.specs.HexBytes.{types_read, types_text, no_types}
 use Rattle.hexbytes.proofs.Laws.{read_good, read_bad, none_long}
 use Rattle.hexbytes.proofs.types.Goals as goal

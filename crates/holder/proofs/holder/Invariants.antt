@@ -1,15 +1,12 @@
 -- `holder` meets its contract. The loop's invariant: the first of the slots left is the answer.
 use Prim.Native.Nat.{ℕ, ◌-◌, ◌≤◌}
-use native.Mathlib.Omega.{arith}
 use mathlib.Core.List.{List}
-use mathlib.Core.Path.{◌≡◌, refl, sym, ◌∙◌}
-use borrow.Author.Rules.{rules}
+use mathlib.Core.Path.{◌≡◌}
 use Rattle.mask.specs.Bits.{Bits}
 use Rattle.mask.specs.declared.Apid.{Apid}
 use Rattle.mask.specs.declared.Apqi.{Apqi}
 use Rattle.rules.specs.State.{apqn}
 use Rattle.rules.specs.Commands.{first_from, product}
-use Rattle.rules.proofs.First.{turn_here, turn_next, turn_end}
 use Rattle.layout.specs.Layout.{device_in}
 use Rattle.holder.specs.Holder.{holder_of}
 use Rattle.holder.proofs.holder.Given as goal

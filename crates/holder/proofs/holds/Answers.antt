@@ -1,5 +1,4 @@
 -- `holds` meets its contract.
-use borrow.Author.Rules.{rules}
 use Rattle.product.proofs.Laws.{has_test}
 use Rattle.holder.proofs.holds.Goals as goal
 

@@ -1,8 +1,6 @@
 -- `set` meets its contract: what the two tests find, in their order, and where the mask is put.
 use mathlib.Core.Bool.{Bool, true, false, cond}
 use mathlib.Core.Path.{refl, sym, ap, ◌∙◌}
-use borrow.Author.Tests.{not-true, not-false}
-use borrow.Author.Rules.{rules}
 use Rattle.layout.specs.Layout.{device_in, apmask_at, aqmask_at, put_four}
 use Rattle.product.specs.Meet.{queues_of}
 use Rattle.host.proofs.Laws.{by_answers}

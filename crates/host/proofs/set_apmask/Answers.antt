@@ -1,5 +1,4 @@
 -- `set_apmask` meets its contract, by `set`.
-use borrow.Author.Rules.{rules}
 use Rattle.host.proofs.Laws.{set_apmask_lem}
 use Rattle.host.proofs.set_apmask.Goals as goal
 

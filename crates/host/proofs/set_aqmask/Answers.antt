@@ -1,5 +1,4 @@
 -- `set_aqmask` meets its contract, by `set`.
-use borrow.Author.Rules.{rules}
 use Rattle.host.proofs.Laws.{set_aqmask_lem}
 use Rattle.host.proofs.set_aqmask.Goals as goal
 

@@ -1,6 +1,5 @@
 -- `apmask` meets its contract.
 use mathlib.Core.Path.{ap, ◌∙◌}
-use borrow.Author.Rules.{rules}
 use Rattle.matrixbytes.specs.Matrices.{mask_bytes}
 use Rattle.hostbytes.proofs.apmask.Goals as goal
 

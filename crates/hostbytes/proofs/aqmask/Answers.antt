@@ -1,6 +1,5 @@
 -- `aqmask` meets its contract.
 use mathlib.Core.Path.{ap, ◌∙◌}
-use borrow.Author.Rules.{rules}
 use Rattle.matrixbytes.specs.Matrices.{mask_bytes}
 use Rattle.hostbytes.proofs.aqmask.Goals as goal
 

@@ -3,7 +3,6 @@ use Prim.Native.Nat.{ℕ, min}
 use native.Mathlib.Omega.{arith}
 use mathlib.Core.Path.{ap, sym, ◌∙◌}
 use lib.ListN.{get_or-append}
-use borrow.Author.Rules.{rules}
 use Rattle.layout.specs.Lent.{config}
 use Rattle.hostbytes.specs.Configurations.{type_bytes}
 use Rattle.hostbytes.proofs.Laws.{type_at}

@@ -1,15 +1,10 @@
 -- `put` meets its contract. The invariant: each byte up to i is the right one.
 use Prim.Native.Nat.{ℕ, ◌-◌, ◌≤◌, ◌<◌}
-use native.Mathlib.Omega.{arith}
 use mathlib.Core.List.{◌++◌}
-use mathlib.Core.Path.{◌≡◌, ◌∙◌}
+use mathlib.Core.Path.{◌≡◌}
 use lib.ListN.{length, get_or}
-use lib.Seq.{ext_get_or, get_or-set_same, get_or-set_other}
-use borrow.Author.Count.{below_more}
-use borrow.Author.Rules.{rules}
 use Rattle.layout.specs.Layout.{config_in}
 use Rattle.hostbytes.specs.Configurations.{type_bytes}
-use Rattle.hostbytes.proofs.Laws.{all_long}
 use Rattle.hostbytes.proofs.put.Given as goal
 
 abbrev pub invariant-loop-i : goal.invariant-loop-i

@@ -1,6 +1,5 @@
 -- `byte_at` meets its contract.
 use borrow.Author.Tests.{lt-ltb, le-ltb}
-use borrow.Author.Rules.{rules}
 use Rattle.idbytes.specs.IdBytes.{id_byte}
 use Rattle.idbytes.proofs.byte_at.Goals as goal
 

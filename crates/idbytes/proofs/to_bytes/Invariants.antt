@@ -1,16 +1,8 @@
 -- `to_bytes` meets its contract. The invariant: each byte up to i is the right one.
 use Prim.Native.Nat.{ℕ, ◌-◌, ◌≤◌, ◌<◌}
-use native.Mathlib.Nat.{zero-add}
-use native.Mathlib.Omega.{arith}
-use mathlib.Core.Path.{◌≡◌, ap, sym, ◌∙◌}
+use mathlib.Core.Path.{◌≡◌}
 use lib.ListN.{length, get_or}
-use lib.Seq.{get_or-set_same, get_or-set_other}
-use borrow.Author.Count.{below_more}
-use borrow.Author.Rules.{rules}
-use Rattle.fields.specs.Fields.{id_of}
-use Rattle.rows.proofs.Laws.{same_row}
-use Rattle.idbytes.specs.IdBytes.{id_byte, id_bytes}
-use Rattle.idbytes.proofs.Laws.{id_back}
+use Rattle.idbytes.specs.IdBytes.{id_byte}
 use Rattle.idbytes.proofs.to_bytes.Given as goal
 
 abbrev pub invariant-loop-i : goal.invariant-loop-i

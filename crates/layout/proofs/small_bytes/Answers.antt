@@ -1,5 +1,4 @@
 -- `small_bytes` meets its contract, by what a slice tells of its elements.
-use borrow.Author.Rules.{rules}
 use Rattle.layout.proofs.small_bytes.Goals as goal
 
 pub returns : goal.returns

@@ -1,5 +1,4 @@
 -- `small_words` meets its contract, by what a slice tells of its elements.
-use borrow.Author.Rules.{rules}
 use Rattle.layout.proofs.small_words.Goals as goal
 
 pub returns : goal.returns

@@ -7,7 +7,6 @@ use mathlib.Core.List.{[], ◌∷◌}
 use lib.ListN.{get_or}
 use lib.Dec.{eqb, ltb}
 use borrow.Author.Tests.{lt-ltb, le-ltb, ltb-true, ltb-false, eqb-true, eqb-false}
-use borrow.Author.Rules.{rules}
 use Rattle.mask.specs.Bits.{digit, bits_above}
 use Rattle.mask.proofs.Bit.{digit_zero, digit_ones, one_shl, one_shl_pos}
 use Rattle.mask.proofs.Laws.{same_test, each_bits, below_four}

@@ -1,6 +1,5 @@
 -- `exceeds` meets its contract.
 use mathlib.Core.Path.{ap, ◌∙◌}
-use borrow.Author.Rules.{rules}
 use Rattle.mask.specs.Bits.{Bits, bits, both, some_below}
 use Rattle.limits.proofs.exceeds.Goals as goal
 

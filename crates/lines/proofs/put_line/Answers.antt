@@ -1,7 +1,6 @@
 -- `put_line` meets its contract: the line is copied.
 use native.Mathlib.Omega.{arith}
 use mathlib.Core.Path.{◌∙◌}
-use borrow.Author.Rules.{rules}
 use Rattle.copy.proofs.Laws.{copied_as}
 use Rattle.lines.specs.Lines.{line_size, line_of}
 use Rattle.lines.proofs.Laws.{line_long}

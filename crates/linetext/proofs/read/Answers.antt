@@ -7,7 +7,6 @@ use lib.Seq.{take_all}
 use Rattle.split.proofs.Laws.{first_end, piece_end}
 use Rattle.linewords.proofs.Laws.{asked_bad}
 use Rattle.linetext.proofs.Laws.{long_line, short_line, one_word, two_words, three_words, four_words, more_words}
-use borrow.Author.Rules.{rules}
 use Rattle.linetext.proofs.read.Goals as goal
 
 pub returns-then-line-a : goal.returns-then-line-a

@@ -8,7 +8,6 @@ use Rattle.model.specs.Steps.{assign, unassign}
 use Rattle.encoding.specs.Encoding.{command_of}
 use Rattle.wordtext.proofs.Laws.{first_yes, first_no}
 use Rattle.linewords.proofs.Laws.{asked_bad}
-use borrow.Author.Rules.{rules}
 use Rattle.linewords.proofs.four.Goals as goal
 
 pub returns-then-is : goal.returns-then-is

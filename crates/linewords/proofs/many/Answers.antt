@@ -2,7 +2,6 @@
 use mathlib.Core.Path.{sym, ap, ◌∙◌}
 use Prim.Native.Nat.{ℕ}
 use mathlib.Core.List.{List}
-use borrow.Author.Tests.{not-true, not-false}
 use Rattle.errno.specs.Ascii.{ascii}
 use Rattle.split.specs.Cut.{cut}
 use Rattle.configtext.specs.ConfigText.{config_read}
@@ -10,7 +9,6 @@ use Rattle.linewords.specs.Requests.{for_config}
 use Rattle.configtext.proofs.Laws.{told_bad}
 use Rattle.wordtext.proofs.Laws.{first_yes, first_no}
 use Rattle.linewords.proofs.Laws.{asked_config, asked_bad, when_bad}
-use borrow.Author.Rules.{rules}
 use Rattle.linewords.proofs.many.Goals as goal
 
 pub returns-then-not-is : goal.returns-then-not-is

@@ -6,7 +6,6 @@ use Rattle.rules.specs.declared.Kind.TheVariants.{Adapter}
 use Rattle.linewords.specs.Parsed.{no_id}
 use Rattle.configtext.proofs.Laws.{told_good, told_bad}
 use Rattle.linewords.proofs.Laws.{asked_command, asked_bad, when_good_lem, when_bad}
-use borrow.Author.Rules.{rules}
 use Rattle.linewords.proofs.mask.Goals as goal
 
 pub returns-then-read : goal.returns-then-read

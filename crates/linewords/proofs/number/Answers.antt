@@ -6,7 +6,6 @@ use Rattle.hexbytes.specs.HexBytes.{id_read}
 use Rattle.wordtext.specs.Words.{kind_read}
 use Rattle.configtext.proofs.Laws.{told_good, told_bad}
 use Rattle.linewords.proofs.Laws.{asked_command, asked_bad, when_good_lem, when_bad}
-use borrow.Author.Rules.{rules}
 use Rattle.linewords.proofs.number.Goals as goal
 
 pub returns-then-not-read : goal.returns-then-not-read

@@ -5,7 +5,6 @@ use Rattle.wordtext.specs.Words.{byte_read}
 use Rattle.linewords.specs.Parsed.{asked}
 use Rattle.configtext.proofs.Laws.{told_good, told_bad}
 use Rattle.linewords.proofs.Laws.{asked_bad, when_good_lem, when_bad}
-use borrow.Author.Rules.{rules}
 use Rattle.linewords.proofs.queue.Goals as goal
 
 pub returns-then-not-a : goal.returns-then-not-a

@@ -4,7 +4,6 @@ use Rattle.errno.specs.Ascii.{ascii}
 use Rattle.linewords.specs.Requests.{by_words}
 use Rattle.wordtext.proofs.Laws.{first_yes, first_no}
 use Rattle.linewords.proofs.Laws.{asked_bad}
-use borrow.Author.Rules.{rules}
 use Rattle.linewords.proofs.three.Goals as goal
 
 pub returns-then-is : goal.returns-then-is

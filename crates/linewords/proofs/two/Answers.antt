@@ -12,7 +12,6 @@ use Rattle.encoding.specs.Encoding.{command, command_of}
 use Rattle.configtext.specs.ConfigText.{when_good}
 use Rattle.wordtext.proofs.Laws.{first_yes, first_no}
 use Rattle.linewords.proofs.Laws.{asked_bad}
-use borrow.Author.Rules.{rules}
 use Rattle.linewords.proofs.two.Goals as goal
 
 pub returns-then-is : goal.returns-then-is

@@ -1,9 +1,8 @@
 -- `lines` meets its contract: as many lines as adapters times domains.
-use Prim.Native.Nat.{◌*◌, ◌≤◌}
+use Prim.Native.Nat.{◌≤◌}
 use native.Mathlib.Omega.{arith}
 use native.Mathlib.Nat.{mul-le-mul}
 use mathlib.Core.Path.{ap₂, sym, ◌∙◌}
-use borrow.Author.Rules.{rules}
 use Rattle.mask.specs.Bits.{bits}
 use Rattle.mask.proofs.Laws.{count_le}
 use Rattle.listing.proofs.Laws.{matrix_lines}

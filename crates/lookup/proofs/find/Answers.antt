@@ -1,15 +1,8 @@
 -- `find` meets its contract. The loop's invariant: the first of the slots left is the answer.
-use Prim.Native.Nat.{ℕ, ◌-◌, ◌≤◌}
 use native.Mathlib.Omega.{arith}
-use mathlib.Core.List.{List}
-use mathlib.Core.Bool.{◌&&◌}
-use mathlib.Core.Path.{◌≡◌, refl, sym, ◌∙◌}
-use borrow.Author.Rules.{rules}
-use Rattle.mask.specs.Bits.{Bits}
-use Rattle.rules.specs.declared.Id.{Id}
-use Rattle.rules.specs.Commands.{first_from, slot_of, same_id}
+use mathlib.Core.Path.{refl, sym, ◌∙◌}
+use Rattle.rules.specs.Commands.{slot_of}
 use Rattle.rules.proofs.First.{turn_here, turn_next, turn_end}
-use Rattle.layout.specs.Layout.{device_in}
 use Rattle.lookup.proofs.find.Invariants.{here}
 use Rattle.lookup.proofs.find.Goals as goal
 

@@ -1,14 +1,11 @@
 -- `find` meets its contract. The loop's invariant: the first of the slots left is the answer.
 use Prim.Native.Nat.{ℕ, ◌-◌, ◌≤◌}
-use native.Mathlib.Omega.{arith}
 use mathlib.Core.List.{List}
 use mathlib.Core.Bool.{◌&&◌}
-use mathlib.Core.Path.{◌≡◌, refl, sym, ◌∙◌}
-use borrow.Author.Rules.{rules}
+use mathlib.Core.Path.{◌≡◌}
 use Rattle.mask.specs.Bits.{Bits}
 use Rattle.rules.specs.declared.Id.{Id}
 use Rattle.rules.specs.Commands.{first_from, slot_of, same_id}
-use Rattle.rules.proofs.First.{turn_here, turn_next, turn_end}
 use Rattle.layout.specs.Layout.{device_in}
 use Rattle.lookup.proofs.find.Given as goal
 

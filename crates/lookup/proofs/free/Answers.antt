@@ -1,14 +1,9 @@
 -- `free` meets its contract. The loop's invariant: the first of the slots left is the answer.
-use Prim.Native.Nat.{ℕ, ◌-◌, ◌≤◌}
 use native.Mathlib.Omega.{arith}
-use mathlib.Core.List.{List}
 use mathlib.Core.Bool.{not}
-use mathlib.Core.Path.{◌≡◌, refl, sym, ap, ◌∙◌}
-use borrow.Author.Rules.{rules}
-use Rattle.mask.specs.Bits.{Bits}
-use Rattle.rules.specs.Commands.{first_from, free_slot}
+use mathlib.Core.Path.{refl, sym, ap, ◌∙◌}
+use Rattle.rules.specs.Commands.{free_slot}
 use Rattle.rules.proofs.First.{turn_here, turn_next, turn_end}
-use Rattle.layout.specs.Layout.{device_in}
 use Rattle.lookup.proofs.free.Invariants.{empty}
 use Rattle.lookup.proofs.free.Goals as goal
 

@@ -1,7 +1,6 @@
 -- `is_at` meets its contract.
 use mathlib.Core.Path.{sym, ap, ◌∙◌}
 use borrow.Author.Tests.{eq-eqb, ne_eqb}
-use borrow.Author.Rules.{rules}
 use Rattle.rules.specs.Commands.{same_id}
 use Rattle.lookup.proofs.Laws.{and_yes, and_no}
 use Rattle.lookup.proofs.is_at.Goals as goal

@@ -1,11 +1,9 @@
 -- `taken` meets its contract. The loop's invariant: no device at a slot passed shares a queue.
-use Prim.Native.Nat.{ℕ, ◌-◌, ◌≤◌}
+use Prim.Native.Nat.{ℕ}
 use native.Mathlib.Omega.{arith}
-use mathlib.Core.Logic.{⊎_elim}
-use mathlib.Core.Bool.{false, not}
+use mathlib.Core.Bool.{not}
 use mathlib.Core.Path.{◌≡◌, refl, sym, ap, ◌∙◌}
 use borrow.Author.Tests.{eq-eqb, ne_eqb}
-use borrow.Author.Rules.{rules}
 use Rattle.mask.proofs.Laws.{some_intro}
 use Rattle.mask.specs.Bits.{some_below}
 use Rattle.rules.proofs.Products.{taken_by}
@@ -37,8 +35,8 @@ loop-other-preserved c =
       omega arith,
       none_next l.other f l.invariant.1
           (elim c.if-other-slot.branch [
-            then-other-slot+else-shares w ↦ and_yes (ap not (ne_eqb l.other a.slot w.if-other-slot.true)) ∙ sym w.shares.ensures ∙ w.if-shares.false |
-            else-other-slot w ↦ and_no _ (ap not (eq-eqb l.other a.slot w.if-other-slot.false))
+            | then-other-slot+else-shares w ↦ and_yes (ap not (ne_eqb l.other a.slot w.if-other-slot.true)) ∙ sym w.shares.ensures ∙ w.if-shares.false
+            | else-other-slot w ↦ and_no _ (ap not (eq-eqb l.other a.slot w.if-other-slot.false))
           ]),
     )
 

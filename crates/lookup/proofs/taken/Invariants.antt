@@ -1,18 +1,12 @@
 -- `taken` meets its contract. The loop's invariant: no device at a slot passed shares a queue.
-use Prim.Native.Nat.{ℕ, ◌-◌, ◌≤◌}
-use native.Mathlib.Omega.{arith}
-use mathlib.Core.Logic.{⊎_elim}
-use mathlib.Core.Bool.{false, not}
-use mathlib.Core.Path.{◌≡◌, refl, sym, ap, ◌∙◌}
-use borrow.Author.Tests.{eq-eqb, ne_eqb}
-use borrow.Author.Rules.{rules}
-use Rattle.mask.proofs.Laws.{some_intro}
+use Prim.Native.Nat.{◌-◌, ◌≤◌}
+use mathlib.Core.Bool.{false}
+use mathlib.Core.Path.{◌≡◌}
 use Rattle.mask.specs.Bits.{some_below}
-use Rattle.rules.proofs.Products.{taken_by}
 use Rattle.rules.specs.State.{slots}
 use Rattle.layout.specs.Layout.{device_in}
 use Rattle.product.specs.Meet.{queues_of}
-use Rattle.lookup.proofs.Laws.{shared, none_next, and_yes, and_no}
+use Rattle.lookup.proofs.Laws.{shared}
 use Rattle.lookup.proofs.taken.Given as goal
 
 abbrev pub invariant-loop-other : goal.invariant-loop-other

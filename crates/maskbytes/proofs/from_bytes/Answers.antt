@@ -7,7 +7,6 @@ use lib.ListN.{get_or}
 use Rattle.mask.specs.Bits.{digit, bit_at, number}
 use Rattle.mask.proofs.Laws.{below_four, each_bits, past_end, number_digit}
 use Rattle.maskbytes.proofs.Laws.{bytes_words}
-use borrow.Author.Rules.{rules}
 use Rattle.maskbytes.proofs.from_bytes.Goals as goal
 
 pub returns : goal.returns

@@ -1,6 +1,5 @@
 -- `word_of` meets its contract.
 use Rattle.maskbytes.proofs.Laws.{bytes_words, eight_packed}
-use borrow.Author.Rules.{rules}
 use Rattle.maskbytes.proofs.word_of.Goals as goal
 
 pub returns : goal.returns

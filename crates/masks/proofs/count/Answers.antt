@@ -6,7 +6,6 @@ use mathlib.Core.Path.{sym, ◌∙◌}
 use mathlib.Core.List.{List}
 use lib.ListN.{get_or}
 use lib.Count.{ones, ones-le}
-use borrow.Author.Rules.{rules}
 use Rattle.mask.specs.Bits.{Sized, bits}
 use Rattle.mask.proofs.Laws.{mask_words_lem, count_next, count_le}
 use Rattle.masks.proofs.count.Goals as goal

@@ -1,10 +1,7 @@
 -- `comma` meets its contract. The invariant: no byte from the start up to i is a comma.
 use Prim.Native.Nat.{ℕ, ◌-◌, ◌<◌, ◌≤◌}
-use native.Mathlib.Omega.{arith}
 use mathlib.Core.Path.{◌≡◌}
 use lib.ListN.{length, get_or}
-use borrow.Author.Count.{below_more}
-use borrow.Author.Rules.{rules}
 use Rattle.masktext.proofs.comma.Given as goal
 
 abbrev pub invariant-loop-i : goal.invariant-loop-i

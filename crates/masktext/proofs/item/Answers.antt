@@ -10,7 +10,6 @@ use Rattle.number.specs.Text.{number_rule, outcome as number-outcome}
 use Rattle.number.proofs.Laws.{rule_le}
 use Rattle.masktext.specs.Text.{signed}
 use Rattle.masktext.proofs.Laws.{item_none, item_some}
-use borrow.Author.Rules.{rules}
 use Rattle.masktext.proofs.item.Goals as goal
 
 pub returns-then-s-eq0 : goal.returns-then-s-eq0

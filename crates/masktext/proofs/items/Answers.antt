@@ -1,14 +1,13 @@
 -- `items` meets its contract. The invariant: the items left, worked on the mask so far, give the answer for all of them.
-use Prim.Native.Nat.{◌-◌, ◌≤◌, ◌<◌}
+use Prim.Native.Nat.{◌<◌}
 use native.Mathlib.Omega.{arith}
 use mathlib.Core.Bool.{true≢false}
-use mathlib.Core.Path.{◌≡◌, refl, sym, ap, ◌∙◌}
+use mathlib.Core.Path.{refl, sym, ap, ◌∙◌}
 use mathlib.Core.List.{[]}
-use lib.ListN.{length, drop}
+use lib.ListN.{length}
 use Rattle.mask.specs.Bits.{bits}
-use Rattle.masktext.specs.Text.{outcome, items, parts}
+use Rattle.masktext.specs.Text.{outcome, items}
 use Rattle.masktext.proofs.Laws.{parts_at_end, parts_at_comma, parts_at, items_good, items_bad, outcome_bad, outcome_good}
-use borrow.Author.Rules.{rules}
 use Rattle.masktext.proofs.items.Goals as goal
 
 pub returns-then-not-next : goal.returns-then-not-next

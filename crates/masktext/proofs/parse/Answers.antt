@@ -8,7 +8,6 @@ use lib.Seq.{length-take-le}
 use Rattle.digits.specs.Digits.{body, starts_hex}
 use Rattle.digits.proofs.Laws.{body_le, body_take}
 use Rattle.masktext.specs.Text.{mask_text}
-use borrow.Author.Rules.{rules}
 use Rattle.masktext.proofs.parse.Goals as goal
 
 pub slice_bounds-b-end : goal.slice_bounds-b-end

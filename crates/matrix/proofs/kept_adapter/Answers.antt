@@ -1,7 +1,6 @@
 -- `kept_adapter` meets its contract.
 use mathlib.Core.Path.{◌≡◌, sym, ap, ◌∙◌, fun_ext}
 use mathlib.Core.Bool.{Bool, true, false, ◌&&◌, and-false}
-use borrow.Author.Rules.{rules}
 use borrow.Author.Tests.{not-true, not-false}
 use Rattle.mask.specs.Bits.{bits, excluded}
 use Rattle.matrix.specs.Row.{held_back}

@@ -1,6 +1,5 @@
 -- `masks_at` meets its contract.
 use mathlib.Core.Path.{sym, ap, ap₂, ◌∙◌}
-use borrow.Author.Rules.{rules}
 use Rattle.mask.specs.Bits.{both}
 use Rattle.rules.specs.declared.Matrix.{Matrix}
 use Rattle.rules.specs.Commands.{numbers_of}

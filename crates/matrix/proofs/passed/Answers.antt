@@ -1,6 +1,5 @@
 -- `passed` meets its contract.
 use mathlib.Core.Path.{sym, ap}
-use borrow.Author.Rules.{rules}
 use Rattle.rules.specs.Queues.{passed}
 use Rattle.matrix.proofs.passed.Goals as goal
 

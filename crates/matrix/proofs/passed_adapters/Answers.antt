@@ -1,11 +1,10 @@
 -- `passed_adapters` meets its contract. The loop's invariant: of the adapters below n those that are held back are dropped.
-use Prim.Native.Nat.{ℕ, zero-le, ◌-◌, ◌%◌, ◌≤◌}
+use Prim.Native.Nat.{ℕ, zero-le, ◌%◌}
 use native.Mathlib.Nat.{mod-eq_of_lt}
 use native.Mathlib.Omega.{arith}
 use mathlib.Core.Path.{◌≡◌, sym, ap, ◌∙◌, fun_ext}
 use mathlib.Core.Bool.{Bool, not, ◌&&◌, and-true}
 use lib.Dec.{eqb, ltb}
-use borrow.Author.Rules.{rules}
 use borrow.Author.Tests.{le-ltb}
 use Rattle.mask.specs.Bits.{Bits, bits}
 use Rattle.mask.proofs.Laws.{past_end, mask_words_lem}

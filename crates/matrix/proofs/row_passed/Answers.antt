@@ -1,13 +1,11 @@
 -- `row_passed` meets its contract. The loop's invariant: no queue of a domain below n holds the adapter back.
-use Prim.Native.Nat.{ℕ, ◌-◌, ◌%◌, ◌≤◌, ◌<◌}
+use Prim.Native.Nat.{◌%◌}
 use native.Mathlib.Nat.{mod-eq_of_lt}
 use native.Mathlib.Omega.{arith}
 use mathlib.Core.Path.{◌≡◌, refl, sym, ap, ◌∙◌}
-use mathlib.Core.Logic.{⊎_elim}
 use mathlib.Core.Bool.{true, false, not}
 use borrow.Author.Count.{below_more}
 use borrow.Author.Rules.{rules}
-use borrow.Author.Tests.{not-true, not-false}
 use Rattle.mask.specs.Bits.{bits}
 use Rattle.mask.proofs.Laws.{some_intro, none_some}
 use Rattle.rules.specs.Queues.{passed}
@@ -39,8 +37,8 @@ loop-n-preserved c =
     let at = missing_at a.drivers.now (bits a.domains) a.adapter.0 (l.n % 256) in
     let none : missing a.drivers.now (bits a.domains) a.adapter.0 (l.n % 256) ≡ false =
     elim c.if-has_domain.branch [
-      then-has_domain+else-not-passed w ↦ at true true (sym h.has_domain.ensures ∙ w.if-has_domain.true) (sym (w.passed.ensures ∙ ap passed w.driver.ensures) ∙ w.if-not-passed.false) |
-      else-has_domain w ↦ at false _ (sym h.has_domain.ensures ∙ w.if-has_domain.false) refl
+      | then-has_domain+else-not-passed w ↦ at true true (sym h.has_domain.ensures ∙ w.if-has_domain.true) (sym (w.passed.ensures ∙ ap passed w.driver.ensures) ∙ w.if-not-passed.false)
+      | else-has_domain w ↦ at false _ (sym h.has_domain.ensures ∙ w.if-has_domain.false) refl
     ] in
     (search rules, below_more _ _ l.invariant.1 (rw e at none))
 

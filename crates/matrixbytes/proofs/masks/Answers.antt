@@ -1,7 +1,6 @@
 -- `masks` meets its contract: the masks are put, or the buffer stays as it was.
 use native.Mathlib.Omega.{arith}
 use mathlib.Core.Path.{refl}
-use borrow.Author.Rules.{rules}
 use Rattle.matrixbytes.proofs.masks.Goals as goal
 
 pub returns-then-e-gt0 : goal.returns-then-e-gt0

@@ -1,7 +1,6 @@
 -- `put_mask` meets its contract: the bytes of the mask are copied.
 use native.Mathlib.Omega.{arith}
 use mathlib.Core.Path.{◌∙◌}
-use borrow.Author.Rules.{rules}
 use Rattle.copy.proofs.Laws.{copied_as}
 use Rattle.mask.specs.Bits.{bits}
 use Rattle.matrixbytes.specs.Matrices.{mask_bytes}

@@ -8,7 +8,6 @@ use lib.Seq.{paste}
 use Rattle.mask.specs.Bits.{bits}
 use Rattle.matrixbytes.specs.Matrices.{mask_bytes}
 use Rattle.matrixbytes.proofs.Laws.{mask_long, three_pasted}
-use borrow.Author.Rules.{rules}
 use Rattle.matrixbytes.proofs.put_masks.Goals as goal
 
 pub returns : goal.returns

@@ -1,6 +1,5 @@
 -- `moved_name` meets its contract: the value is that of the case that was found, or no case has it.
 use mathlib.Core.Path.{refl, sym, ap, ◌∙◌}
-use borrow.Author.Rules.{rules}
 use Rattle.rules.specs.Queues.{moved_number}
 use Rattle.movednames.proofs.moved_name.Goals as goal
 

@@ -1,6 +1,6 @@
 -- `moved_of` meets its contract: one case has an arm's number, and only the first can have those of the last arm.
 use Rattle.rules.specs.declared.Moved.TheVariants.{Released, BoundHost, BoundPassthrough}
-use Rattle.movednames.proofs.Laws.{one_case, first_case}
+use Rattle.movednames.proofs.Laws.{one_case}
 use Rattle.movednames.proofs.moved_of.Goals as goal
 
 pub returns-in-1 : goal.returns-in-1

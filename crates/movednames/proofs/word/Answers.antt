@@ -1,6 +1,5 @@
 -- `word` meets its contract: the bytes of each case are its word and zeros.
 use mathlib.Core.Path.{refl}
-use borrow.Author.Rules.{rules}
 use Rattle.errno.specs.Ascii.{ascii}
 use Rattle.movednames.specs.Moves.{moved_word}
 use Rattle.movednames.proofs.word.Goals as goal

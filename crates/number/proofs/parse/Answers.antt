@@ -2,7 +2,6 @@
 use native.Mathlib.Omega.{arith}
 use mathlib.Core.Path.{sym}
 use lib.Seq.{length-take-le}
-use borrow.Author.Rules.{rules}
 use Rattle.number.specs.Text.{number_text}
 use Rattle.digits.proofs.Laws.{body_le, body_take}
 use Rattle.number.proofs.parse.Goals as goal

@@ -1,11 +1,8 @@
 -- `part` meets its contract. The invariant: as many parts as are left to pass over stand between `start` and the one asked for.
-use Prim.Native.Nat.{◌≤◌}
 use native.Mathlib.Omega.{arith}
 use mathlib.Core.Path.{◌≡◌, ◌∙◌}
-use lib.ListN.{length, drop}
-use borrow.Author.Rules.{rules}
+use lib.ListN.{drop}
 use Rattle.split.proofs.Laws.{end_within}
-use Rattle.parts.specs.Parts.{part}
 use Rattle.parts.proofs.Laws.{part_less, part_found}
 use Rattle.parts.proofs.part.Goals as goal
 

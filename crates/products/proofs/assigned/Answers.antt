@@ -1,5 +1,4 @@
 -- `assigned` meets its contract: a device has the product of its masks, an empty slot has no queue.
-use borrow.Author.Rules.{rules}
 use Rattle.rules.specs.Commands.{numbers_of}
 use Rattle.products.proofs.Laws.{of_device, of_none}
 use Rattle.products.proofs.assigned.Goals as goal

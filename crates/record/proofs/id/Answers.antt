@@ -1,6 +1,5 @@
 -- `id` meets its contract.
 use borrow.Author.Tests.{lt-ltb, le-ltb}
-use borrow.Author.Rules.{rules}
 use Rattle.rules.specs.State.{no_device}
 use Rattle.layout.specs.Layout.{device_in}
 use Rattle.record.proofs.id.Goals as goal

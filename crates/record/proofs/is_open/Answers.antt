@@ -1,6 +1,5 @@
 -- `is_open` meets its contract.
 use borrow.Author.Tests.{lt-ltb, le-ltb}
-use borrow.Author.Rules.{rules}
 use Rattle.rules.specs.State.{no_device}
 use Rattle.layout.specs.Layout.{device_in, flag}
 use Rattle.record.proofs.is_open.Goals as goal

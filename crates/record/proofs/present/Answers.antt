@@ -1,6 +1,5 @@
 -- `present` meets its contract.
 use borrow.Author.Tests.{lt-ltb, le-ltb}
-use borrow.Author.Rules.{rules}
 use Rattle.rules.specs.State.{no_device}
 use Rattle.layout.specs.Layout.{device_in, flag}
 use Rattle.record.proofs.present.Goals as goal

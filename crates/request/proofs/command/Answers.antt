@@ -1,7 +1,6 @@
 -- `command` meets its contract: each operation is carried out by its function, which is a call.
 use native.Mathlib.Omega.{arith}
 use mathlib.Core.Path.{refl, sym, ap, ◌∙◌}
-use borrow.Author.Rules.{rules}
 use Rattle.model.specs.Steps.{configure, rule}
 use Rattle.calls.specs.Calls.{effect, creates, removes, opens, closes, assigns, unassigns, sets_apmask, sets_aqmask, configures}
 use Rattle.encoding.specs.Encoding.{command_of}

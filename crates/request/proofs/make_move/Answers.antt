@@ -1,6 +1,5 @@
 -- `make_move` meets its contract.
 use native.Mathlib.Omega.{arith}
-use borrow.Author.Rules.{rules}
 use Rattle.request.proofs.Laws.{moved}
 use Rattle.request.proofs.make_move.Goals as goal
 

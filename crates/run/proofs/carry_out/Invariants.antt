@@ -1,10 +1,8 @@
 -- `carry_out` meets its contract. The invariant: what was done and what is left make up what the whole list comes to.
 use Prim.Native.Nat.{◌-◌}
-use native.Mathlib.Omega.{arith}
 use lib.ListN.{length}
 use Rattle.layout.specs.Carried.{memory}
-use Rattle.run.proofs.Laws.{Left, part_long, step_left, Going, starts, goes_on_lem, ends_early, ends_full}
-use borrow.Author.Rules.{rules}
+use Rattle.run.proofs.Laws.{Going}
 use Rattle.run.proofs.carry_out.Given as goal
 
 abbrev pub invariant-loop-n : goal.invariant-loop-n

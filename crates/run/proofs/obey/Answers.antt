@@ -1,5 +1,4 @@
 -- `obey` meets its contract: the command of the parts of the header, and the payload.
-use borrow.Author.Rules.{rules}
 use Rattle.run.proofs.Laws.{of_parts}
 use Rattle.run.proofs.obey.Goals as goal
 

@@ -1,6 +1,5 @@
 -- `run` meets its contract: a fresh record, and then the requests.
 use native.Mathlib.Omega.{arith}
-use borrow.Author.Rules.{rules}
 use Rattle.run.proofs.Laws.{runs}
 use Rattle.run.proofs.run.Goals as goal
 

@@ -1,5 +1,4 @@
 -- `step` meets its contract: a command, a sweep or a move, by the operation.
-use borrow.Author.Rules.{rules}
 use Rattle.request.proofs.Laws.{as_asked, is_move}
 use Rattle.run.proofs.Laws.{of_budget}
 use Rattle.run.proofs.step.Goals as goal

@@ -1,8 +1,6 @@
 -- `device` meets its contract: what is in the slot, or nothing.
 use mathlib.Core.Bool.{true≢false}
 use mathlib.Core.Path.{refl, sym, ap, ◌∙◌}
-use borrow.Author.Rules.{rules}
-use borrow.Author.Tests.{not-true, not-false}
 use Rattle.shown.specs.Shown.{bit}
 use Rattle.seen.proofs.device.Goals as goal
 

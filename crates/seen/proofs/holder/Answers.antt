@@ -1,7 +1,6 @@
 -- `holder` meets its contract: the id of the device in the slot that was found, or nothing.
 use native.Mathlib.Omega.{arith}
 use mathlib.Core.Path.{refl}
-use borrow.Author.Rules.{rules}
 use Rattle.seen.proofs.holder.Goals as goal
 
 pub returns-then-slot-ge-SLOTS : goal.returns-then-slot-ge-SLOTS

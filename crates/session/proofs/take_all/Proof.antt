@@ -1,10 +1,8 @@
 -- `take_all` meets its contract.
 -- Assumes nothing.
-use native.Mathlib.Omega.{arith}
-use mathlib.Core.Path.{◌≡◌, refl, ◌∙◌}
+use mathlib.Core.Path.{◌≡◌, refl}
 use lib.ListN.{length}
 use Rattle.layout.specs.Carried.{memory}
-use Rattle.session.specs.Room.{room}
 use Rattle.session.specs.Sessions.{Passed}
 use Rattle.session.proofs.Laws.{passed_none, passed_then}
 use borrow.Author.Rules.{rules}

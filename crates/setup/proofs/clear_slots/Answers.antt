@@ -1,11 +1,10 @@
 -- `clear_slots` meets its contract. The loop's invariant: the slots passed are emptied.
-use Prim.Native.Nat.{ℕ, ◌≤◌, ◌-◌}
+use Prim.Native.Nat.{ℕ}
 use native.Mathlib.Numerals.{add-one}
 use native.Mathlib.Omega.{arith}
 use mathlib.Core.Bool.{false}
 use mathlib.Core.List.{List}
 use mathlib.Core.Path.{◌≡◌, refl, sym, ap, ◌∙◌}
-use borrow.Author.Rules.{rules}
 use Rattle.rules.specs.State.{slots}
 use Rattle.layout.specs.Layout.{no_id, put_device, clear_slots}
 use Rattle.setup.proofs.clear_slots.Goals as goal

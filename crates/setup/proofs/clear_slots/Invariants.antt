@@ -1,13 +1,8 @@
 -- `clear_slots` meets its contract. The loop's invariant: the slots passed are emptied.
-use Prim.Native.Nat.{ℕ, ◌≤◌, ◌-◌}
-use native.Mathlib.Numerals.{add-one}
-use native.Mathlib.Omega.{arith}
-use mathlib.Core.Bool.{false}
-use mathlib.Core.List.{List}
-use mathlib.Core.Path.{◌≡◌, refl, sym, ap, ◌∙◌}
-use borrow.Author.Rules.{rules}
+use Prim.Native.Nat.{◌≤◌, ◌-◌}
+use mathlib.Core.Path.{◌≡◌}
 use Rattle.rules.specs.State.{slots}
-use Rattle.layout.specs.Layout.{no_id, put_device, clear_slots}
+use Rattle.layout.specs.Layout.{clear_slots}
 use Rattle.setup.proofs.clear_slots.Given as goal
 
 abbrev pub invariant-loop-slot : goal.invariant-loop-slot

@@ -4,7 +4,6 @@ use native.Mathlib.Omega.{arith}
 use native.Mathlib.Nat.{mod-eq_of_lt}
 use mathlib.Core.Logic.{inl, inr}
 use mathlib.Core.Path.{ap₂, ◌∙◌}
-use borrow.Author.Rules.{rules}
 use Rattle.layout.specs.Layout.{fresh_words}
 use Rattle.layout.specs.Carried.{memory}
 use Rattle.setup.proofs.Laws.{refuses, makes}

@@ -2,7 +2,6 @@
 use Prim.Native.Nat.{ℕ}
 use mathlib.Core.Path.{ap, ap₂, ◌∙◌}
 use mathlib.Core.List.{List}
-use borrow.Author.Rules.{rules}
 use Rattle.rules.specs.State.{slots}
 use Rattle.layout.specs.Layout.{apmask_at, aqmask_at, put_four, put_config, clear_slots}
 use Rattle.layout.proofs.Laws.{all_ones}

@@ -1,5 +1,4 @@
 -- `list` meets its contract: the two numbers are left, or stay as they were.
-use borrow.Author.Rules.{rules}
 use Rattle.shown.proofs.Laws.{left_by}
 use Rattle.shown.proofs.list.Goals as goal
 

@@ -1,11 +1,8 @@
 -- `end` meets its contract. The invariant: the piece from i on ends where the whole one does.
 use Prim.Native.Nat.{◌-◌}
-use native.Mathlib.Omega.{arith}
-use mathlib.Core.Path.{◌≡◌, refl, sym, ◌∙◌}
+use mathlib.Core.Path.{◌≡◌}
 use lib.ListN.{length}
-use borrow.Author.Rules.{rules}
 use Rattle.split.specs.Cut.{end_from}
-use Rattle.split.proofs.Laws.{end_turn, end_here, end_past}
 use Rattle.split.proofs.end.Given as goal
 
 abbrev pub invariant-loop-i : goal.invariant-loop-i

@@ -1,12 +1,7 @@
 -- `holds` meets its contract. The invariant: the byte occurs where it was found, or among the bytes from i on.
-use Prim.Native.Nat.{◌-◌}
 use native.Mathlib.Omega.{arith}
-use mathlib.Core.Bool.{◌||◌}
-use mathlib.Core.Path.{◌≡◌, refl, sym, ◌∙◌}
-use lib.ListN.{length, drop}
-use Rattle.split.specs.Cut.{holds}
+use mathlib.Core.Path.{refl, sym, ◌∙◌}
 use Rattle.split.proofs.Laws.{holds_turn, holds_end}
-use borrow.Author.Rules.{rules}
 use Rattle.split.proofs.holds.Goals as goal
 
 pub loop-i-preserved : goal.loop-i-preserved

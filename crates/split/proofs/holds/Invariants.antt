@@ -1,12 +1,9 @@
 -- `holds` meets its contract. The invariant: the byte occurs where it was found, or among the bytes from i on.
 use Prim.Native.Nat.{◌-◌}
-use native.Mathlib.Omega.{arith}
 use mathlib.Core.Bool.{◌||◌}
-use mathlib.Core.Path.{◌≡◌, refl, sym, ◌∙◌}
+use mathlib.Core.Path.{◌≡◌}
 use lib.ListN.{length, drop}
 use Rattle.split.specs.Cut.{holds}
-use Rattle.split.proofs.Laws.{holds_turn, holds_end}
-use borrow.Author.Rules.{rules}
 use Rattle.split.proofs.holds.Given as goal
 
 abbrev pub invariant-loop-i : goal.invariant-loop-i

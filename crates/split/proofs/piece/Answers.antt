@@ -1,6 +1,5 @@
 -- `piece` meets its contract.
 use native.Mathlib.Omega.{arith}
-use borrow.Author.Rules.{rules}
 use Rattle.split.proofs.Laws.{end_within, piece_is, piece_past}
 use Rattle.split.proofs.piece.Goals as goal
 

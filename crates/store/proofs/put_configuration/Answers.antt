@@ -4,7 +4,6 @@ use mathlib.Core.Bool.{cond}
 use mathlib.Core.List.{List}
 use mathlib.Core.Path.{ap, ◌∙◌}
 use lib.ListN.{get_or}
-use borrow.Author.Rules.{rules}
 use Rattle.mask.specs.Bits.{bits}
 use Rattle.layout.specs.Layout.{config_at, put_four, put_types, put_config}
 use Rattle.store.proofs.put_configuration.Goals as goal

@@ -5,7 +5,6 @@ use mathlib.Core.Path.{sym, ap, ◌∙◌}
 use mathlib.Core.Bool.{Bool, cond}
 use mathlib.Core.List.{List, [], ◌∷◌}
 use borrow.Author.Tests.{le-ltb}
-use borrow.Author.Rules.{rules}
 use Rattle.rules.specs.State.{slots}
 use Rattle.layout.specs.Layout.{put_four, zeros, put_device}
 use Rattle.layout.proofs.Laws.{cond_below}

@@ -1,7 +1,6 @@
 -- `put_numbers` meets its contract.
 use native.Mathlib.Omega.{arith}
 use borrow.Author.Tests.{lt-ltb, le-ltb}
-use borrow.Author.Rules.{rules}
 use Rattle.layout.specs.Layout.{put_numbers}
 use Rattle.layout.proofs.Laws.{kind_small}
 use Rattle.store.proofs.put_numbers.Goals as goal

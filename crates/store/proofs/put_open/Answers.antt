@@ -5,7 +5,6 @@ use mathlib.Core.Path.{sym, ap, ◌∙◌}
 use mathlib.Core.Bool.{Bool, cond}
 use lib.ListN.{set}
 use borrow.Author.Tests.{lt-ltb, le-ltb}
-use borrow.Author.Rules.{rules}
 use Rattle.layout.specs.Layout.{put_open}
 use Rattle.store.proofs.put_open.Goals as goal
 use Rattle.store.proofs.put_open.Goals.{then-opened, else-opened}

@@ -1,14 +1,10 @@
 -- `put_types` meets its contract. The loop's invariant: the types of the first a adapters are put.
-use Prim.Native.Nat.{◌<◌, ◌≤◌, ◌-◌}
-use native.Mathlib.Nat.{mod-eq_of_lt}
-use native.Mathlib.Omega.{arith}
-use mathlib.Core.Path.{refl, ap, ◌∙◌, ◌≡◌}
-use mathlib.Core.Bool.{Bool, cond}
+use Prim.Native.Nat.{◌≤◌, ◌-◌}
+use mathlib.Core.Path.{◌≡◌}
+use mathlib.Core.Bool.{cond}
 use lib.ListN.{get_or}
-use borrow.Author.Rules.{rules}
 use Rattle.mask.specs.Bits.{bits}
 use Rattle.layout.specs.Layout.{put_types}
-use Rattle.layout.proofs.Laws.{types_next}
 use Rattle.store.proofs.put_types.Given as goal
 
 abbrev pub invariant-loop-a : goal.invariant-loop-a

@@ -1,7 +1,6 @@
 -- `finish` meets its contract: nothing, or the target's byte.
 use native.Mathlib.Omega.{arith}
 use borrow.Author.Tests.{eq-eqb, ne_eqb}
-use borrow.Author.Rules.{rules}
 use Rattle.sweep.proofs.finish.Goals as goal
 
 pub returns-then-due-eq0 : goal.returns-then-due-eq0

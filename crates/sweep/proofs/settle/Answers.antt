@@ -2,7 +2,6 @@
 use native.Mathlib.Omega.{arith}
 use mathlib.Core.Path.{◌≡◌}
 use Rattle.sweep.specs.Sweeps.{moves_bytes}
-use borrow.Author.Rules.{rules}
 use Rattle.sweep.proofs.settle.Goals as goal
 
 pub returns-then-moves-eq0 : goal.returns-then-moves-eq0

@@ -1,13 +1,12 @@
 -- `sweep` meets its contract. The invariant: the bytes are those of a sweep of the queues passed.
-use Prim.Native.Nat.{ℕ, ◌+◌, ◌*◌, ◌-◌, ◌<◌, ◌≤◌, min}
+use Prim.Native.Nat.{ℕ, ◌+◌, ◌*◌, ◌-◌, ◌<◌, ◌≤◌}
 use native.Mathlib.Nat.{zero-add}
 use native.Mathlib.Omega.{arith}
 use mathlib.Core.Path.{◌≡◌, sym, ap, subst, ◌∙◌}
-use mathlib.Core.Logic.{⊎_elim}
 use borrow.Author.Tests.{lt-ltb, le-ltb, ltb-true, ltb-false}
 use borrow.Author.Rules.{rules}
 use Rattle.rules.specs.State.{queues}
-use Rattle.rules.specs.Queues.{due_at, sum_from, most_moves, remaining}
+use Rattle.rules.specs.Queues.{due_at, sum_from, remaining}
 use Rattle.rules.proofs.Sweeps.{all_due}
 use Rattle.layout.specs.Layout.{state_in}
 use Rattle.sweep.specs.Sweeps.{sweep_bytes}

@@ -1,5 +1,5 @@
 -- `sweep_row` meets its contract. The invariant: the bytes are those of a sweep of the queues passed.
-use Prim.Native.Nat.{ℕ, ◌+◌, ◌*◌, ◌-◌, ◌<◌, ◌≤◌}
+use Prim.Native.Nat.{ℕ, ◌+◌, ◌*◌, ◌-◌, ◌<◌}
 use native.Mathlib.Omega.{arith}
 use mathlib.Core.Path.{◌≡◌, refl, sym, ap, ap₂, ◌∙◌}
 use lib.ListN.{length}
@@ -12,7 +12,7 @@ use Rattle.layout.specs.Layout.{state_in, host_in, config_in}
 use Rattle.targetrow.proofs.Laws.{row_target_lem}
 use Rattle.due.proofs.Laws.{due_read}
 use Rattle.sweep.specs.Sweeps.{sweep_bytes}
-use Rattle.sweep.proofs.Laws.{finished, sweep_one, Underway, sweep_starts, as_long, goes_on, stops}
+use Rattle.sweep.proofs.Laws.{finished, sweep_one, sweep_starts, as_long, goes_on, stops}
 use Rattle.sweep.proofs.sweep_row.Goals.{After-due_by-n, Start}
 use Rattle.sweep.proofs.sweep_row.Goals as goal
 

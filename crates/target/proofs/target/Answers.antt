@@ -1,6 +1,6 @@
 -- `target` meets its contract: by whether the queue is configured and reserved, and by the hardware type.
 use native.Mathlib.Omega.{arith}
-use mathlib.Core.Path.{◌≡◌, refl, sym, ap, ◌∙◌}
+use mathlib.Core.Path.{refl, sym, ap, ◌∙◌}
 use mathlib.Core.Bool.{Bool, true, false, cond}
 use borrow.Author.Tests.{le-leb, lt-leb}
 use Rattle.rules.specs.declared.Driver.TheVariants.{Unbound, Passthrough}

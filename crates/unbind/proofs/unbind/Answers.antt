@@ -1,9 +1,8 @@
 -- `unbind` meets its contract. The loop's invariant: the queues of the adapters passed are unbound where they are configured no more.
-use Prim.Native.Nat.{ℕ, ◌≤◌, ◌-◌, ◌*◌}
+use Prim.Native.Nat.{ℕ, ◌*◌}
 use native.Mathlib.Omega.{arith}
 use mathlib.Core.List.{List}
 use mathlib.Core.Path.{◌≡◌, refl, ap, ◌∙◌}
-use borrow.Author.Rules.{rules}
 use Rattle.rules.specs.State.{queues}
 use Rattle.layout.specs.Layout.{unbind}
 use Rattle.unbind.specs.Gone.{gone, unbind_row}

@@ -1,9 +1,8 @@
 -- `unbind_domains` meets its contract. The loop's invariant: of the adapter's queues passed, those of the domains are unbound.
-use Prim.Native.Nat.{ℕ, ◌≤◌, ◌-◌, ◌*◌, ◌+◌}
+use Prim.Native.Nat.{ℕ, ◌*◌, ◌+◌}
 use native.Mathlib.Omega.{arith}
 use mathlib.Core.List.{List}
 use mathlib.Core.Path.{◌≡◌, refl, ap, ◌∙◌}
-use borrow.Author.Rules.{rules}
 use Rattle.unbind.specs.Gone.{with_domain, unbind_row}
 use Rattle.layout.specs.Layout.{unbind_one}
 use Rattle.unbind.proofs.Laws.{row_next}

@@ -1,12 +1,7 @@
 -- `unbind_domains` meets its contract. The loop's invariant: of the adapter's queues passed, those of the domains are unbound.
-use Prim.Native.Nat.{ℕ, ◌≤◌, ◌-◌, ◌*◌, ◌+◌}
-use native.Mathlib.Omega.{arith}
-use mathlib.Core.List.{List}
-use mathlib.Core.Path.{◌≡◌, refl, ap, ◌∙◌}
-use borrow.Author.Rules.{rules}
+use Prim.Native.Nat.{◌≤◌, ◌-◌}
+use mathlib.Core.Path.{◌≡◌}
 use Rattle.unbind.specs.Gone.{with_domain, unbind_row}
-use Rattle.layout.specs.Layout.{unbind_one}
-use Rattle.unbind.proofs.Laws.{row_next}
 use Rattle.unbind.proofs.unbind_domains.Given as goal
 
 abbrev pub invariant-loop-domain : goal.invariant-loop-domain

@@ -1,9 +1,7 @@
 -- `unbind_one` meets its contract.
 use native.Mathlib.Omega.{arith}
-use mathlib.Core.Bool.{true, false}
+use mathlib.Core.Bool.{true}
 use mathlib.Core.Path.{sym, ◌∙◌}
-use borrow.Author.Tests.{not-true, not-false}
-use borrow.Author.Rules.{rules}
 use Rattle.layout.specs.Layout.{byte_of}
 use Rattle.unbind.proofs.Laws.{by_test}
 use Rattle.unbind.proofs.unbind_one.Goals as goal

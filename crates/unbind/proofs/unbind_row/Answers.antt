@@ -1,7 +1,5 @@
 -- `unbind_row` meets its contract.
 use mathlib.Core.Path.{sym, ◌∙◌}
-use borrow.Author.Tests.{not-true}
-use borrow.Author.Rules.{rules}
 use Rattle.unbind.specs.Gone.{gone}
 use Rattle.product.specs.Meet.{Row}
 use Rattle.mask.specs.Bits.{bits}

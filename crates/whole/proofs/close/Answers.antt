@@ -1,5 +1,4 @@
 -- `close` meets its contract.
-use borrow.Author.Rules.{rules}
 use Rattle.served.proofs.Laws.{closed_as}
 use Rattle.whole.proofs.close.Goals as goal
 

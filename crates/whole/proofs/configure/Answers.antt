@@ -1,5 +1,4 @@
 -- `configure` meets its contract.
-use borrow.Author.Rules.{rules}
 use Rattle.served.proofs.Laws.{configured_as}
 use Rattle.whole.proofs.configure.Goals as goal
 

@@ -1,5 +1,4 @@
 -- `create` meets its contract.
-use borrow.Author.Rules.{rules}
 use Rattle.served.proofs.Laws.{created_as}
 use Rattle.whole.proofs.create.Goals as goal
 

@@ -1,5 +1,4 @@
 -- `open` meets its contract.
-use borrow.Author.Rules.{rules}
 use Rattle.served.proofs.Laws.{opened_as}
 use Rattle.whole.proofs.open.Goals as goal
 

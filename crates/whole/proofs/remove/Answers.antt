@@ -1,5 +1,4 @@
 -- `remove` meets its contract.
-use borrow.Author.Rules.{rules}
 use Rattle.served.proofs.Laws.{removed_as}
 use Rattle.whole.proofs.remove.Goals as goal
 

@@ -1,5 +1,4 @@
 -- `set_apmask` meets its contract.
-use borrow.Author.Rules.{rules}
 use Rattle.served.proofs.Laws.{apmask_as}
 use Rattle.whole.proofs.set_apmask.Goals as goal
 

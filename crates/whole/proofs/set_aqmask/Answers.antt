@@ -1,5 +1,4 @@
 -- `set_aqmask` meets its contract.
-use borrow.Author.Rules.{rules}
 use Rattle.served.proofs.Laws.{aqmask_as}
 use Rattle.whole.proofs.set_aqmask.Goals as goal
 

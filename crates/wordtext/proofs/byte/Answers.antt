@@ -2,7 +2,6 @@
 use mathlib.Core.Path.{refl, sym, ap, ◌∙◌}
 use Rattle.number.specs.Text.{outcome, at_most}
 use Rattle.wordtext.specs.Words.{byte_read, byte_text}
-use borrow.Author.Rules.{rules}
 use Rattle.wordtext.proofs.byte.Goals as goal
 
 pub returns-in-Value : goal.returns-in-Value

@@ -1,10 +1,6 @@
 -- `is` meets its contract. The invariant: the words are the same where they are from byte i on.
-use Prim.Native.Nat.{◌-◌, ◌≤◌}
 use native.Mathlib.Omega.{arith}
-use mathlib.Core.Path.{◌≡◌, refl, sym, ◌∙◌}
-use lib.ListN.{length, drop}
-use borrow.Author.Rules.{rules}
-use Rattle.wordtext.specs.Words.{same}
+use mathlib.Core.Path.{refl, sym, ◌∙◌}
 use Rattle.wordtext.proofs.Laws.{other_length, same_on, same_not, same_all}
 use Rattle.wordtext.proofs.is.Goals as goal
 

@@ -1,11 +1,8 @@
 -- `is` meets its contract. The invariant: the words are the same where they are from byte i on.
 use Prim.Native.Nat.{◌-◌, ◌≤◌}
-use native.Mathlib.Omega.{arith}
-use mathlib.Core.Path.{◌≡◌, refl, sym, ◌∙◌}
+use mathlib.Core.Path.{◌≡◌}
 use lib.ListN.{length, drop}
-use borrow.Author.Rules.{rules}
 use Rattle.wordtext.specs.Words.{same}
-use Rattle.wordtext.proofs.Laws.{other_length, same_on, same_not, same_all}
 use Rattle.wordtext.proofs.is.Given as goal
 
 abbrev pub invariant-loop-i : goal.invariant-loop-i

@@ -6,7 +6,6 @@ use Rattle.errno.specs.Outcome.{granted}
 use Rattle.rules.specs.declared.Kind.TheVariants.{Control}
 use Rattle.wordtext.specs.Words.{bad, kind_text, kind_read}
 use Rattle.wordtext.proofs.Laws.{first_yes, first_no}
-use borrow.Author.Rules.{rules}
 use Rattle.wordtext.proofs.kind.Goals as goal
 
 pub returns-then-is : goal.returns-then-is

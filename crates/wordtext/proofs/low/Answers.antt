@@ -4,7 +4,6 @@ use mathlib.Core.Bool.{true≢false}
 use mathlib.Core.Path.{refl}
 use Rattle.wordtext.specs.Words.{byte_read}
 use Rattle.wordtext.proofs.Laws.{byte_is, byte_not}
-use borrow.Author.Rules.{rules}
 use Rattle.wordtext.proofs.low.Goals as goal
 
 pub returns-then-n-lt256 : goal.returns-then-n-lt256

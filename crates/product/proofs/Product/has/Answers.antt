@@ -1,5 +1,4 @@
 -- `has` meets its contract. The facts are searched for, so that another test fails as a fact.
-use borrow.Author.Rules.{rules}
 use Rattle.product.proofs.Laws.{has_both, has_not}
 use Rattle.product.proofs.Product.has.Goals as goal
 

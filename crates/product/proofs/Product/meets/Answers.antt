@@ -1,5 +1,4 @@
 -- `meets` meets its contract. The facts are searched for, so that another test fails as a fact.
-use borrow.Author.Rules.{rules}
 use Rattle.product.proofs.Laws.{meet_both, meet_not}
 use Rattle.product.proofs.Product.meets.Goals as goal
 

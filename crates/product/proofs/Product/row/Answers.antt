@@ -1,5 +1,4 @@
 -- `row` meets its contract. The facts are searched for, so that another row fails as a fact.
-use borrow.Author.Rules.{rules}
 use Rattle.product.proofs.Laws.{row_of, row_none}
 use Rattle.product.proofs.Product.row.Goals as goal
 

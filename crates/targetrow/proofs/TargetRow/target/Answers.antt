@@ -1,7 +1,6 @@
 -- `target` meets its contract: by the two tests.
 use mathlib.Core.Path.{sym, ap, ap₂, ◌∙◌}
 use mathlib.Core.Bool.{Bool, cond}
-use borrow.Author.Rules.{rules}
 use Rattle.mask.specs.Bits.{bits}
 use Rattle.rules.specs.declared.Driver.TheVariants.{Unbound, Host, Passthrough}
 use Rattle.targetrow.proofs.TargetRow.target.Goals as goal
