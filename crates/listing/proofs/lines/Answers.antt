@@ -1,5 +1,5 @@
 -- `lines` meets its contract: as many lines as adapters times domains.
-use Prim.Native.Nat.{◌≤◌}
+use Prim.Native.Nat.{◌*◌, ◌≤◌}
 use native.Mathlib.Omega.{arith}
 use native.Mathlib.Nat.{mul-le-mul}
 use mathlib.Core.Path.{ap₂, sym, ◌∙◌}
