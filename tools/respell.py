@@ -1,24 +1,22 @@
 #!/usr/bin/env python3
 """Brings the definitions and lemmas of this repository to the spelling of today's Rattle.
 
-Run once, at the top of a checkout, after the kit's port.py, before anything of what it wrote is committed. That script passes
-over folders named `target`, as build output, so the crate `target` is turned first, under another name, in a copy of the commit. Words of specs/ and proofs/ that port.py left as they were are
-turned to snake case: `queuesOf` to `queues_of`, `digit-op` to `digit_op`. Types, modules, functions of src/, names that
-Rattle makes (goals, steps, labels) and strings stay. Pages get the same names. `--dry` writes nothing and only
-says which names would fall together.
+usage: respell.py PORT [--dry]      at the top of a checkout; PORT is the kit's port.py
+
+Run once, after port.py, before anything of what it wrote is committed. That script passes over folders named `target`, as build
+output, so the crate `target` is turned first, under another name, in a copy of the commit. Words of specs/ and proofs/ that port.py
+left as they were are turned to snake case: `queuesOf` to `queues_of`, `digit-op` to `digit_op`. Types, modules, functions of src/,
+names that Rattle makes (goals, steps, labels) and strings stay. Pages get the same names. `--dry` writes nothing and only says which
+names would fall together.
 """
 import glob
 import os
 import re
-import shutil
 import subprocess
 import sys
 import tempfile
 
-PORT = "/opt/rattle/port/port.py"
-
 DECLARED = re.compile(r"^(\s*)((?:abbrev |unfoldable |pub )*)([^\s:(){}]+) : (.*)$")
-FIELD = re.compile(r"^(\s+)((?:pub )?)([^\s:(){}]+) : (.*)$")
 TOKEN = re.compile(r"[A-Za-z0-9_'₂-]+")
 STRING = re.compile(r'b?"(?:[^"\\]|\\.)*"')
 
@@ -103,7 +101,7 @@ def words_in(text, word, other):
     return re.sub(rf"(?<![A-Za-z0-9_'.-]){word}(?![A-Za-z0-9_'-])", other, text)
 
 
-def turn_target():
+def turn_target(port):
     """The crate `target`, as port.py turns a crate of another name."""
     with tempfile.TemporaryDirectory() as copy:
         archive = subprocess.run(["git", "archive", "HEAD"], check=True, capture_output=True).stdout
@@ -120,7 +118,7 @@ def turn_target():
         git = ["git", "-C", copy, "-c", "user.name=copy", "-c", "user.email=copy@localhost"]
         for args in (["init", "-q"], ["add", "-A"], ["commit", "-qm", "copy"]):
             subprocess.run(git + args, check=True)
-        subprocess.run([sys.executable, PORT], cwd=copy, check=True, stdout=subprocess.DEVNULL)
+        subprocess.run([sys.executable, port], cwd=copy, check=True, stdout=subprocess.DEVNULL)
         turned = os.path.join(copy, "crates/targetq")
         for folder, _, files in os.walk(turned):
             for name in files:
@@ -132,7 +130,7 @@ def turn_target():
 def main():
     dry = "--dry" in sys.argv
     if not dry:
-        turn_target()
+        turn_target(os.path.abspath(sys.argv[1]))
     camel, dashed = collect()
     kit = library_words()
     dashed -= kit

@@ -20,33 +20,10 @@ def norm(s):
     return s.replace("-", "_")
 
 
-def items(text):
-    """Top-level items: (kind, lines)."""
-    out, block = [], []
-    for line in text.split("\n"):
-        if line and not line[0].isspace() and not line.startswith("--") and block and not (
-            block[-1].startswith("--") and not any(not b.startswith("--") for b in block)
-        ):
-            out.append(block)
-            block = []
-        if line.startswith("--") and block and not all(b.startswith("--") for b in block):
-            out.append(block)
-            block = []
-        if line.strip() == "" and block:
-            out.append(block)
-            block = []
-            continue
-        if line.strip():
-            block.append(line)
-    if block:
-        out.append(block)
-    return out
-
-
 def decls(text):
     """(header comment lines, use lines, [(name, lines)])"""
     lines = text.split("\n")
-    head, uses, rest = [], [], []
+    head, uses = [], []
     i = 0
     while i < len(lines) and lines[i].startswith("--"):
         head.append(lines[i])
@@ -96,10 +73,6 @@ def split_args(s):
     if cur:
         out.append(cur)
     return out
-
-
-def dedent(s, by=0):
-    return s
 
 
 class Function:
@@ -442,10 +415,9 @@ def main():
         if why:
             print(f"{folder}: left: {why}")
         else:
-            os.rename(file, f"/tmp/old-proofs/{crate}-{folder.replace('/', '.')}.antt")
+            os.remove(file)
         for s in f.said:
             print(f"{folder}: {s}")
 
 
-os.makedirs("/tmp/old-proofs", exist_ok=True)
 main()
