@@ -1,0 +1,10 @@
+-- `take_all` meets its contract: what the turns so far took of the input stays taken.
+use Rattle.layout.specs.Carried.{memory}
+use Rattle.session.specs.Sessions.{Passed}
+use Rattle.session.proofs.take_all.Given as goal
+
+abbrev pub invariant-loop-left : goal.invariant-loop-left
+invariant-loop-left g l = Passed 0 l.initial.line l.line (memory l.initial.words l.initial.drivers) (memory l.words l.drivers) l.held
+
+abbrev pub decreases-loop-left : goal.decreases-loop-left
+decreases-loop-left g l = l.left
