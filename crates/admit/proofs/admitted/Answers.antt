@@ -5,7 +5,7 @@ use Rattle.product.specs.Meet.{queues_of}
 use Rattle.admit.proofs.Laws.{found, by_tests}
 use Rattle.admit.proofs.admitted.Goals as goal
 
--- the first test is searched for, so that another order of them fails as a fact
+-- the tests are searched for, so that another order of them fails as a fact
 pub returns-then-reserved : goal.returns-then-reserved
 returns-then-reserved c = λ qs t.
     let a = c.args in
@@ -14,11 +14,11 @@ returns-then-reserved c = λ qs t.
 pub returns-then-taken : goal.returns-then-taken
 returns-then-taken c = λ qs t.
     let a = c.args in
-    by_tests (queues_of a.wanted) a.slot a.words.now qs t false true (found c.if-reserved.false c.reserved.ensures)
-    (found c.if-taken.true c.taken.ensures)
+    by_tests (queues_of a.wanted) a.slot a.words.now qs t false true (search found)
+    (search found)
 
 pub returns : goal.returns
 returns c = λ qs t.
     let a = c.args in
-    by_tests (queues_of a.wanted) a.slot a.words.now qs t false false (found c.if-reserved.false c.reserved.ensures)
-    (found c.if-taken.false c.taken.ensures)
+    by_tests (queues_of a.wanted) a.slot a.words.now qs t false false (search found)
+    (search found)

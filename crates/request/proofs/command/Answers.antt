@@ -1,9 +1,21 @@
 -- `command` meets its contract: each operation is carried out by its function, which is a call.
+use Prim.Native.Nat.{ℕ}
 use native.Mathlib.Omega.{arith}
-use mathlib.Core.Path.{refl, sym, ap, ◌∙◌}
+use mathlib.Core.Path.{◌≡◌, refl, sym, ap, ◌∙◌}
 use Rattle.model.specs.Steps.{configure, rule}
 use Rattle.calls.specs.Calls.{effect, creates, removes, opens, closes, assigns, unassigns, sets_apmask, sets_aqmask, configures}
-use Rattle.encoding.specs.Encoding.{command_of}
+use Rattle.encoding.specs.Encoding.{command, command_of}
+use Rattle.request.specs.Requests.{Stepped}
+use Rattle.rules.specs.declared.Answer.{Answer}
+use Rattle.rules.specs.declared.Id.{Id}
+use Rattle.rules.specs.declared.Kind.{Kind}
+use Rattle.rules.specs.Commands.{answered}
+use Rattle.rules.specs.Commands as Commands
+use Rattle.layout.specs.Carried.{CarriedWords, memory}
+use Rattle.assign.specs.Numbers.{Assigning, unassigned}
+use Rattle.host.specs.Masks.{with_apmask, with_aqmask}
+use mathlib.Core.List.{List}
+use borrow.Author.Rules.{rules}
 use Rattle.request.proofs.Laws.{obeyed, at_op, is_configure}
 use Rattle.request.proofs.command.Goals as goal
 
@@ -35,33 +47,52 @@ returns-in-3 c =
     obeyed (at_op 3 a.kind a.id a.text.now c.in-3.is) (c.close.ensures a.drivers.now)
     (closes a.id c.close.result (record { words = c.close.ensures; drivers = refl }))
 
-pub returns-in-4 : goal.returns-in-4
+-- the calls of 4 to 7 are searched for, so that another function in an operation's place fails as a fact
+assigned_as : (op : ℕ) (k : Kind) (i : Id) (text ws vs qs : List ℕ) (r : Answer) → op ≡ 4 → Assigning k i text ws vs r
+    → Stepped (command (command_of op k i text)) (memory ws qs) (memory vs qs) (answered r)
 unfolding command_of rule effect
+assigned_as op k i text ws vs qs r e h = obeyed (at_op 4 k i text e) (h.rule qs) (assigns k i text r h refl)
+
+unassigned_as : (op : ℕ) (k : Kind) (i : Id) (text ws vs qs : List ℕ) (r : Answer) → op ≡ 5
+    → CarriedWords (Commands.unassign k i text) (unassigned k i text) ws vs r
+    → Stepped (command (command_of op k i text)) (memory ws qs) (memory vs qs) (answered r)
+unfolding command_of rule effect
+unassigned_as op k i text ws vs qs r e h =
+    obeyed (at_op 5 k i text e) (h qs) (unassigns k i text r (record { words = h; drivers = refl }))
+
+apmask_as : (op : ℕ) (k : Kind) (i : Id) (text ws vs qs : List ℕ) (r : Answer) → op ≡ 6
+    → CarriedWords (Commands.set_apmask text) (with_apmask text) ws vs r
+    → Stepped (command (command_of op k i text)) (memory ws qs) (memory vs qs) (answered r)
+unfolding command_of rule effect
+apmask_as op k i text ws vs qs r e h =
+    obeyed (at_op 6 k i text e) (h qs) (sets_apmask text r (record { words = h; drivers = refl }))
+
+aqmask_as : (op : ℕ) (k : Kind) (i : Id) (text ws vs qs : List ℕ) (r : Answer) → op ≡ 7
+    → CarriedWords (Commands.set_aqmask text) (with_aqmask text) ws vs r
+    → Stepped (command (command_of op k i text)) (memory ws qs) (memory vs qs) (answered r)
+unfolding command_of rule effect
+aqmask_as op k i text ws vs qs r e h =
+    obeyed (at_op 7 k i text e) (h qs) (sets_aqmask text r (record { words = h; drivers = refl }))
+
+pub returns-in-4 : goal.returns-in-4
 returns-in-4 c =
     let a = c.args in
-    obeyed (at_op 4 a.kind a.id a.text.now c.in-4.is) (c.assign.ensures.rule a.drivers.now)
-    (assigns a.kind a.id a.text.now c.assign.result c.assign.ensures refl)
+    assigned_as a.op a.kind a.id a.text.now a.words.now _ a.drivers.now _ c.in-4.is (search rules)
 
 pub returns-in-5 : goal.returns-in-5
-unfolding command_of rule effect
 returns-in-5 c =
     let a = c.args in
-    obeyed (at_op 5 a.kind a.id a.text.now c.in-5.is) (c.unassign.ensures a.drivers.now)
-    (unassigns a.kind a.id a.text.now c.unassign.result (record { words = c.unassign.ensures; drivers = refl }))
+    unassigned_as a.op a.kind a.id a.text.now a.words.now _ a.drivers.now _ c.in-5.is (search rules)
 
 pub returns-in-6 : goal.returns-in-6
-unfolding command_of rule effect
 returns-in-6 c =
     let a = c.args in
-    obeyed (at_op 6 a.kind a.id a.text.now c.in-6.is) (c.set_apmask.ensures a.drivers.now)
-    (sets_apmask a.text.now c.set_apmask.result (record { words = c.set_apmask.ensures; drivers = refl }))
+    apmask_as a.op a.kind a.id a.text.now a.words.now _ a.drivers.now _ c.in-6.is (search rules)
 
 pub returns-in-7 : goal.returns-in-7
-unfolding command_of rule effect
 returns-in-7 c =
     let a = c.args in
-    obeyed (at_op 7 a.kind a.id a.text.now c.in-7.is) (c.set_aqmask.ensures a.drivers.now)
-    (sets_aqmask a.text.now c.set_aqmask.result (record { words = c.set_aqmask.ensures; drivers = refl }))
+    aqmask_as a.op a.kind a.id a.text.now a.words.now _ a.drivers.now _ c.in-7.is (search rules)
 
 pub returns-in_default : goal.returns-in_default
 unfolding rule effect
