@@ -7,7 +7,7 @@ ghost use Rattle.std.specs.Prelude.{◌≡◌, length};
 ghost use Rattle.errno.specs.Errno.{number_of, name_of, padded, row_of};
 
 // Why a request is refused.
-#[derive(Clone, Copy)]
+#[derive(Clone, Copy, PartialEq, Eq)]
 pub enum Errno {
     Enoent,
     Ebusy,

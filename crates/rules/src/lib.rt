@@ -14,7 +14,7 @@ use mask::Mask;
 pub const QUEUES: usize = 65536;
 
 // Who drives a queue: nobody, the host's own driver, or the driver that passes it through to guests.
-#[derive(Clone, Copy)]
+#[derive(Clone, Copy, PartialEq, Eq)]
 pub enum Driver {
     Unbound,
     Host,
@@ -22,7 +22,7 @@ pub enum Driver {
 }
 
 // What a move of one queue did.
-#[derive(Clone, Copy)]
+#[derive(Clone, Copy, PartialEq, Eq)]
 pub enum Moved {
     Idle,
     Released,
@@ -31,7 +31,7 @@ pub enum Moved {
 }
 
 // The three kinds of number that are assigned to a mediated device.
-#[derive(Clone, Copy)]
+#[derive(Clone, Copy, PartialEq, Eq)]
 pub enum Kind {
     Adapter,
     Domain,
@@ -39,7 +39,7 @@ pub enum Kind {
 }
 
 // A device's two matrices: what is assigned to it, and what its guest gets.
-#[derive(Clone, Copy)]
+#[derive(Clone, Copy, PartialEq, Eq)]
 pub enum Matrix {
     Assigned,
     Guest,
@@ -53,7 +53,7 @@ pub enum Answer {
 }
 
 // The 16 bytes of a mediated device's id, as two big-endian numbers.
-#[derive(Clone, Copy)]
+#[derive(Clone, Copy, PartialEq, Eq)]
 pub struct Id {
     pub hi: u64,
     pub lo: u64,
