@@ -1,35 +1,34 @@
--- A byte outside a range; the body of a text.
+-- The prefix and the body of a text.
 -- Assumes nothing.
-use Prim.Native.Nat.{ℕ, ◌-◌, ◌<◌, ◌≤◌}
-use native.Mathlib.Omega.{arith}
-use mathlib.Core.Bool.{Bool, true, false, cond, ◌&&◌, and-false}
-use mathlib.Core.List.{List}
-use mathlib.Core.Logic.{◌⊎◌, inl, inr}
-use mathlib.Core.Path.{◌≡◌}
-use lib.ListN.{length, get_or, take}
-use lib.Seq.{length-take-le, take-length}
-use lib.Dec.{leb, eqb}
-use borrow.Author.Tests.{lt-leb}
-use Rattle.digits.specs.Digits.{body}
+use Rattle.std.proofs.Common.{◌≡◌, ℕ, suc, ◌+◌, ◌-◌, ◌∙◌, sym, true, false, List, [], ◌∷◌, length, get_or, take, drop, refl, arith, Option, Some, None, drop-cons, drop_of_length-le}
+use Rattle.std.proofs.lemmas.Bool.Decides.{nat_tests}
+use Rattle.std.specs.Option.{MatchOption, unwrap_or}
+use Rattle.std.specs.Borrow.{Bor}
+use lib.Dec.{eqb}
+use lib.Pointwise.{pointwise}
+use Rattle.digits.specs.Digits.{body, starts_hex}
 
--- a byte outside a range of bytes
-pub outside : (a c z : ℕ) → (c < a) ⊎ (z < c) → leb a c && leb c z ≡ false
-outside a c z (inl h) = rw (lt-leb a c h)
-outside a c z (inr h) = rw (lt-leb c z h) (and-false (leb a c))
+-- whether the first two bytes are 0x
+pub start_is : (s : List ℕ) → pointwise eqb (48 ∷ 120 ∷ []) (take 2 s) ≡ starts_hex s
+unfolding starts_hex
+start_is [] = refl
+start_is (a ∷ []) = grind (arith, nat_tests)
+start_is (a ∷ b ∷ s) = grind (arith, nat_tests)
 
--- the body is the start of the text
-pub body_take : (s : List ℕ) → take (length (body s)) s ≡ body s
+-- whether the last byte is a newline
+end_is : (s : List ℕ) → pointwise eqb (drop (length s - 1) s) (10 ∷ []) ≡ eqb (get_or s (length s - 1) 0) 10
+end_is [] = refl
+end_is (a ∷ s) =
+    let l : List ℕ = a ∷ s in
+    let n : ℕ = length l - 1 in
+    let none : drop (suc n) l ≡ [] = drop_of_length-le l {i = suc n} (omega arith) in
+    rw (drop-cons l n 0 (omega arith), none) (grind (arith, nat_tests))
+
+-- what is left when the last byte is taken off, or the text
+pub body_is : (s : Bor (List ℕ)) (r : Option (Bor (List ℕ)))
+    → MatchOption r (pointwise eqb (drop (length s.now - 1) s.now) (10 ∷ []) ≡ false)
+    (λ x. (pointwise eqb (drop (length s.now - 1) s.now) (10 ∷ []) ≡ true) × (x.now ≡ take (length s.now - 1) s.now) × (length x.now + 1 ≡ length s.now))
+    → (unwrap_or r s).now ≡ body s.now
 unfolding body
-body_take s = step (eqb (get_or s (length s - 1) 0) 10)
-  where
-    step : (b : Bool) → take (length (cond b (take (length s - 1) s) s)) s ≡ cond b (take (length s - 1) s) s
-    step true = rw (length-take-le (length s - 1) s (omega arith))
-    step false = take-length s
-
-pub body_le : (s : List ℕ) → length (body s) ≤ length s
-unfolding body
-body_le s = step (eqb (get_or s (length s - 1) 0) 10)
-  where
-    step : (b : Bool) → length (cond b (take (length s - 1) s) s) ≤ length s
-    step true = omega (arith, length-take-le (length s - 1) s (omega arith))
-    step false = omega arith
+body_is s None h = rw (sym (end_is s.now) ∙ h)
+body_is s (Some x) h = rw (sym (end_is s.now) ∙ h.0) h.1

@@ -1,6 +1,6 @@
 -- What the texts of numbers and of masks have in common (RULES.md, "Text").
 -- Assumes nothing.
-use Rattle.std.specs.Prelude.{ℕ, ◌+◌, ◌-◌, Bool, cond, ◌&&◌, List, length, get_or, take, eqb, ltb, leb}
+use Rattle.std.specs.Prelude.{ℕ, ◌+◌, ◌-◌, Bool, cond, ◌&&◌, List, length, get_or, take, eqb, ltb, leb, Option, Some, None}
 
 -- the value of a byte as a digit, hex digits of either case; 16 for any other byte
 unfoldable pub digit_of : ℕ → ℕ
@@ -8,6 +8,10 @@ digit_of c =
     cond (leb 48 c && leb c 57) (c - 48)
     (cond (leb 97 c && leb c 102) (c - 87)
     (cond (leb 65 c && leb c 70) (c - 55) 16))
+
+-- the value, where there is one
+unfoldable pub digit_found : ℕ → Option ℕ
+digit_found c = cond (ltb (digit_of c) 16) (Some (digit_of c)) None
 
 -- a lower-case hex digit
 unfoldable pub hex_digit : ℕ → ℕ
