@@ -15,6 +15,12 @@ start_is [] = refl
 start_is (a ∷ []) = grind (arith, nat_tests)
 start_is (a ∷ b ∷ s) = grind (arith, nat_tests)
 
+pub prefix_is : (s : List ℕ) → pointwise eqb (take 2 s) (48 ∷ 120 ∷ []) ≡ starts_hex s
+unfolding starts_hex
+prefix_is [] = refl
+prefix_is (a ∷ []) = grind (arith, nat_tests)
+prefix_is (a ∷ b ∷ s) = grind (arith, nat_tests)
+
 -- whether the last byte is a newline
 end_is : (s : List ℕ) → pointwise eqb (drop (length s - 1) s) (10 ∷ []) ≡ eqb (get_or s (length s - 1) 0) 10
 end_is [] = refl

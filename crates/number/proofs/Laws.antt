@@ -56,9 +56,6 @@ above limit base v (c ∷ cs) h = step (ltb (digit_of c) base) refl (above limit
 abbrev pub one_more : ℕ → ℕ → ℕ → ℕ → Outcome ℕ
 one_more limit base v c = cond (ltb (digit_of c) base) (at_most limit (granted (v * base + digit_of c))) (refused Einval)
 
-pub one_le : (limit base v c : ℕ) {w : ℕ} → one_more limit base v c ≡ granted w → w ≤ limit
-one_le limit base v c e = within_if (ltb (digit_of c) base) limit (granted (v * base + digit_of c)) e
-
 -- the digits c ∷ cs: first c, then cs
 unfoldable pub and_digits : ℕ → ℕ → List ℕ → Outcome ℕ → Outcome ℕ
 and_digits limit base cs (granted v) = at_most limit (digits_after base v cs)

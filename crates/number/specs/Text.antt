@@ -4,13 +4,6 @@ use Rattle.std.specs.Prelude.{ℕ, ◌+◌, ◌*◌, cond, List, [], ◌∷◌, 
 use Rattle.errno.specs.Outcome.{Outcome, granted, refused}
 use Rattle.errno.specs.declared.Errno.TheVariants.{Einval}
 use Rattle.digits.specs.Digits.{digit_of, body, starts_hex}
-use Rattle.number.specs.declared.Number.{Number}
-use Rattle.number.specs.declared.Number.TheVariants.{Value, Bad}
-
--- what an answer comes to: bad text is EINVAL
-unfoldable pub outcome : Number → Outcome ℕ
-outcome (Value v) = granted v
-outcome Bad = refused Einval
 
 -- the value of digits of a base, v being that of the digits before them
 unfoldable pub digits_after : ℕ → ℕ → List ℕ → Outcome ℕ

@@ -3,84 +3,68 @@
 // Rests on errno and digits.
 #![tactic(auto)]
 
-ghost use Rattle.std.specs.Prelude.{◌≡◌, cond, ◌+◌, ◌*◌, ltb, get_or, drop};
-ghost use Rattle.errno.specs.Outcome.{granted, refused};
+ghost use Rattle.std.specs.Prelude.{◌≡◌, ◌≤◌, cond, ◌+◌, ◌*◌, ltb};
+ghost use Rattle.errno.specs.Outcome.{granted, refused, outcome};
 ghost use Rattle.errno.specs.declared.Errno.TheVariants.{Einval};
 ghost use Rattle.digits.specs.Digits.{digit_of};
-ghost use Rattle.number.specs.Text.{outcome, digits, at_most, number_rule, number_text};
+ghost use Rattle.number.specs.Text.{digits, at_most, number_rule, number_text};
 
-// What reading a text finds.
-#[derive(Clone, Copy)]
-pub enum Number {
-    Value(u16),
-    Bad,
-}
+use errno::Errno;
 
 // A number as a user writes it, with or without a final newline.
-pub fn parse(s: &[u8]) -> Number
+#[tactic(auto, unfolding(crate::specs::Text::number_text))]
+pub fn parse(s: &[u8]) -> Result<u16, Errno>
     ensures { outcome result ≡ number_text s.now }
 {
-    let n = digits::body_len(s);
-    parse_at_most(&s[..n], 65535)
+    parse_at_most(digits::body(s), 65535)
 }
 
 // A number of at most limit, with no newline.
-pub fn parse_at_most(s: &[u8], limit: u16) -> Number
+#[tactic(auto, using(std::proofs::lemmas::Bool::Decides::nat_tests, digits::proofs::Laws::prefix_is), unfolding(errno::specs::Outcome::outcome, crate::specs::Text::any_base, crate::specs::Text::number_rule))]
+pub fn parse_at_most(s: &[u8], limit: u16) -> Result<u16, Errno>
     ensures { outcome result ≡ number_rule limit s.now }
 {
     if 16 < s.len() {
-        return Number::Bad;
+        return Err(Errno::Einval);
     }
-    if digits::starts_hex(s) {
-        return digits_from(s, 2, 16, limit);
+    if let Some(hex) = s.strip_prefix(b"0x") {
+        return digits_in(hex, 16, limit);
     }
-    if first(s) == b'0' {
-        return digits_from(s, 0, 8, limit);
+    if s.first() == Some(&b'0') {
+        return digits_in(s, 8, limit);
     }
-    digits_from(s, 0, 10, limit)
+    digits_in(s, 10, limit)
 }
 
-// The first byte, or 0 where there is none.
-fn first(s: &[u8]) -> u8
-    ensures { result ≡ get_or s.now 0 0 }
+// The value of one digit or more. It never passes the limit, so it never wraps.
+#[tactic(auto, using(std::proofs::lemmas::Bool::Decides::nat_tests), unfolding(errno::specs::Outcome::outcome, crate::specs::Text::at_most, crate::specs::Text::digits, crate::specs::Text::digits_after))]
+fn digits_in(s: &[u8], base: u8, limit: u16) -> Result<u16, Errno>
+    requires { base ≤ 16 }
+    ensures { outcome result ≡ at_most limit (digits base s.now) }
 {
-    if s.len() == 0 { 0 } else { s[0] }
-}
-
-// The digits of s from an index on. The value never passes the limit, so it never wraps.
-fn digits_from(s: &[u8], from: usize, base: u8, limit: u16) -> Number
-    ensures { outcome result ≡ at_most limit (digits base (drop from s.now)) }
-{
-    if s.len() <= from {
-        return Number::Bad;
+    if s.is_empty() {
+        return Err(Errno::Einval);
     }
     let mut v: u16 = 0;
-    let mut i = from;
-    while i < s.len() {
-        match one_more(v, base, s[i], limit) {
-            Number::Value(next) => {
-                v = next;
-            }
-            Number::Bad => {
-                return Number::Bad;
-            }
-        }
-        i += 1;
+    for c in s {
+        v = one_more(v, base, *c, limit)?;
     }
-    Number::Value(v)
+    Ok(v)
 }
 
 // The value after one more digit.
-fn one_more(v: u16, base: u8, c: u8, limit: u16) -> Number
+#[tactic(auto, using(std::proofs::lemmas::Bool::Decides::nat_tests), unfolding(errno::specs::Outcome::outcome, digits::specs::Digits::digit_found, crate::specs::Text::at_most))]
+fn one_more(v: u16, base: u8, c: u8, limit: u16) -> Result<u16, Errno>
+    requires { base ≤ 16 }
     ensures { outcome result ≡ cond (ltb (digit_of c) base) (at_most limit (granted (v * base + digit_of c))) (refused Einval) }
 {
-    let d = digits::digit_of(c);
+    let d = digits::digit_of(c).ok_or(Errno::Einval)?;
     if base <= d {
-        return Number::Bad;
+        return Err(Errno::Einval);
     }
-    let next = (v as u32) * (base as u32) + (d as u32);
-    if (limit as u32) < next {
-        return Number::Bad;
+    let next = u32::from(v) * u32::from(base) + u32::from(d);
+    if u32::from(limit) < next {
+        return Err(Errno::Einval);
     }
-    Number::Value((next % 65536) as u16)
+    Ok(next as u16)
 }
