@@ -1,135 +1,71 @@
--- Laws of the text of a mask: its parts between commas, its items, its hex digits.
+-- Laws of the text of a mask: its items, its hex digits.
 -- Assumes nothing.
-use Prim.Native.Nat.{ℕ, zero, suc, ◌+◌, ◌-◌, ◌/◌, ◌%◌, ◌<◌, ◌≤◌}
-use native.Mathlib.Nat.{eq-or-lt_of_le}
-use native.Mathlib.Numerals.{add-one}
-use native.Mathlib.Omega.{arith}
-use mathlib.Core.Bool.{Bool, true, false, cond, not, ◌&&◌, ◌||◌, or-false}
-use mathlib.Core.List.{List, [], ◌∷◌, ◌++◌, map, map-append, append-nil}
-use mathlib.Core.Logic.{◌⊎◌, inl, inr}
-use mathlib.Core.Path.{◌≡◌, refl, sym, ap, ◌∙◌, fun_ext}
-use lib.ListN.{length, get_or, take, drop, length-drop, length-map, take-append-drop, drop_of_length-le}
-use lib.Seq.{length-take-le, take_all, drop-cons, take-suc, get_or-take, get_or-drop, drop-drop}
+use Rattle.std.proofs.Common.{◌≡◌, ℕ, zero, suc, ◌+◌, ◌-◌, ◌/◌, ◌%◌, ◌<◌, ◌≤◌, refl, sym, ◌∙◌, arith, add-one, true, ◌&&◌, ◌||◌, List, [], ◌∷◌, ◌++◌, map, length, get_or, take, drop, drop-cons, drop_of_length-le}
+use Rattle.std.proofs.lemmas.Result.{err_from_is_err_and}
+use Rattle.std.specs.List.{slice_split, onto_first}
+use Rattle.std.specs.Result.{IsErrAnd}
+use mathlib.Core.Bool.{or-false}
+use mathlib.Core.List.{map-append}
+use mathlib.Core.Path.{fun_ext}
+use lib.ListN.{length-map}
+use lib.Seq.{length-take-le, take-suc}
 use lib.Dec.{ltb, eqb, eqb-zero-suc, eqb-suc-zero, eqb-suc-suc}
-use borrow.Author.Tests.{le-leb, lt-leb, ne_eqb, not-true, not-false}
+use Rattle.std.proofs.Common.{Result}
 use Rattle.errno.specs.declared.Errno.{Errno}
-use Rattle.errno.specs.Outcome.{granted, refused}
-use Rattle.errno.specs.declared.Errno.TheVariants.{Einval}
-use Rattle.mask.specs.Bits.{Bits, bits, digit, bit_at, no_bits, either, group}
+use Rattle.errno.specs.Outcome.{Outcome, granted, refused}
+use Rattle.mask.specs.declared.Mask.{Mask}
+use Rattle.mask.specs.Bits.{Bits, digit, bit_at, no_bits, either, group}
 use Rattle.mask.proofs.Bit.{digit_zero}
 use Rattle.digits.specs.Digits.{digit_of}
-use Rattle.number.specs.Text.{number_rule}
-use Rattle.masktext.specs.declared.MaskRead.{MaskRead}
-use Rattle.masktext.specs.Text.{outcome, all_hex, hex_mask, signed, item, and_then, items, before, parts}
+use Rattle.masktext.specs.Text.{outcome, all_hex, item, and_then, items, before, parts}
 
--- no byte of a text is a comma
-abbrev NoComma : List ℕ → Type 0
-NoComma p = (k : ℕ) → k < length p → get_or p k 0 ≡ 44 → ⊥
+-- what a `?` hands on is the refusal that it was at
+pub passed : (r : Result Mask Errno) (e : Errno) → IsErrAnd r (λ y. y ≡ e) → outcome r ≡ refused e
+unfolding outcome
+passed r e h = let p = err_from_is_err_and r h in rw (p.1, p.2)
 
--- bytes before the first part
-unfoldable pub onto : List ℕ → List (List ℕ) → List (List ℕ)
-onto p [] = p ∷ []
-onto p (q ∷ qs) = (p ++ q) ∷ qs
+-- the parts of a text, as `split` gives them
+before_onto : (c : ℕ) (ps : List (List ℕ)) → before c ps ≡ onto_first c ps
+unfolding before
+before_onto c [] = refl
+before_onto c (p ∷ ps) = refl
 
-parts_some : (s : List ℕ) → onto [] (parts s) ≡ parts s
-unfolding onto parts before
-parts_some [] = refl
-parts_some (c ∷ cs) = step (eqb c 44) (parts cs)
-  where
-    step : (b : Bool) (ps : List (List ℕ)) → onto [] (cond b ([] ∷ ps) (before c ps)) ≡ cond b ([] ∷ ps) (before c ps)
-    step true ps = refl
-    step false [] = refl
-    step false (p ∷ ps) = refl
-
-before_onto : (c : ℕ) (p : List ℕ) (ps : List (List ℕ)) → before c (onto p ps) ≡ onto (c ∷ p) ps
-unfolding onto before
-before_onto c p [] = refl
-before_onto c p (q ∷ qs) = refl
-
--- bytes with no comma go before the first part of the rest
-parts_onto : (p rest : List ℕ) → NoComma p → parts (p ++ rest) ≡ onto p (parts rest)
+pub parts_split : (s : List ℕ) → parts s ≡ slice_split (λ c. eqb c 44) s
 unfolding parts
-parts_onto [] rest h = sym (parts_some rest)
-parts_onto (c ∷ cs) rest h =
-    rw (ne_eqb c 44 (h 0 (omega arith)), parts_onto cs rest (λ k l. h (suc k) (omega arith))) (before_onto c cs (parts rest))
+parts_split [] = refl
+parts_split (c ∷ s) = rw (← parts_split s, before_onto c (parts s))
 
--- a text with no comma is one part
-parts_last : (p : List ℕ) → NoComma p → parts p ≡ p ∷ []
-unfolding parts onto
-parts_last p h = rw append-nil at (parts_onto p [] h)
+-- an outcome that is only handed on
+and_granted : (o : Outcome Bits) → and_then o granted ≡ o
+unfolding and_then
+and_granted (granted m) = refl
+and_granted (refused e) = refl
 
--- a text up to its first comma is its first part
-parts_comma : (p rest : List ℕ) → NoComma p → parts (p ++ 44 ∷ rest) ≡ p ∷ parts rest
-unfolding parts onto
-parts_comma p rest h = parts_onto p (44 ∷ rest) h ∙ ap (λ (q : List ℕ). q ∷ parts rest) (append-nil p)
-
--- the part of a text from an index up to another
-none_in : (s : List ℕ) (at e : ℕ) → at ≤ e → e ≤ length s → ((k : ℕ) → k < e → at ≤ k → get_or s k 0 ≡ 44 → ⊥) → NoComma (take (e - at) (drop at s))
-none_in s at e h l n k b q =
-    let z : length (take (e - at) (drop at s)) ≡ e - at = length-take-le (e - at) (drop at s) (simp length-drop (omega arith)) in
-    n (at + k) (omega arith) (omega arith) (sym (get_or-take (e - at) (drop at s) k 0 (omega arith) ∙ get_or-drop at s k 0) ∙ q)
-
--- the text from an index on, with no comma before its end e
-pub parts_at_end : (s : List ℕ) (at e : ℕ) → at ≤ e → e ≡ length s → ((k : ℕ) → k < e → at ≤ k → get_or s k 0 ≡ 44 → ⊥)
-    → parts (drop at s) ≡ take (e - at) (drop at s) ∷ []
-parts_at_end s at e h l n =
-    let q : take (e - at) (drop at s) ≡ drop at s = take_all (e - at) (drop at s) (simp length-drop (omega arith)) in
-    rw q (parts_last (drop at s) (rw q at (none_in s at e h (omega arith) n)))
-
--- the text from an index on, with its next comma at e
-pub parts_at_comma : (s : List ℕ) (at e : ℕ) → at ≤ e → e < length s → get_or s e 0 ≡ 44 → ((k : ℕ) → k < e → at ≤ k → get_or s k 0 ≡ 44 → ⊥)
-    → parts (drop at s) ≡ take (e - at) (drop at s) ∷ parts (drop (e + 1) s)
-parts_at_comma s at e h l c n =
-    ap parts split ∙ parts_comma (take (e - at) (drop at s)) (drop (e + 1) s) (none_in s at e h (omega arith) n)
-  where
-    sum : at + (e - at) ≡ e
-    sum = omega arith
-
-    rest : drop (e - at) (drop at s) ≡ 44 ∷ drop (e + 1) s
-    rest = rw (drop-drop, sum, add-one, drop-cons s e 0 l, c)
-
-    split : drop at s ≡ take (e - at) (drop at s) ++ 44 ∷ drop (e + 1) s
-    split = sym (take-append-drop (e - at) (drop at s)) ∙ ap (λ (q : List ℕ). take (e - at) (drop at s) ++ q) rest
-
--- the text from an index on, up to a comma or its end
-pub parts_at : (s : List ℕ) (at e : ℕ) → at ≤ e → e ≤ length s → ((k : ℕ) → k < e → at ≤ k → get_or s k 0 ≡ 44 → ⊥) → (e < length s → get_or s e 0 ≡ 44)
-    → (ps : List (List ℕ)) × (parts (drop at s) ≡ take (e - at) (drop at s) ∷ ps)
-parts_at s at e h l n f = go (eq-or-lt_of_le l)
-  where
-    go : (e ≡ length s) ⊎ (e < length s) → (ps : List (List ℕ)) × (parts (drop at s) ≡ take (e - at) (drop at s) ∷ ps)
-    go (inl q) = ([], parts_at_end s at e h q n)
-    go (inr q) = (parts (drop (e + 1) s), parts_at_comma s at e h q (f q) n)
-
--- what a bad answer and a good one come to
-module _ (r : MaskRead) where
-  pub outcome_bad : not r.good ≡ true → outcome r ≡ refused Einval
-  unfolding outcome
-  outcome_bad e = rw (not-true r.good e)
-
-  pub outcome_good : not r.good ≡ false → outcome r ≡ granted (bits r.mask)
-  unfolding outcome
-  outcome_good e = rw (not-false r.good e)
-
--- an item that is granted goes on with the rest
-pub items_good : (m n : Bits) (p : List ℕ) (ps : List (List ℕ)) → item m p ≡ granted n → items m (p ∷ ps) ≡ items n ps
+-- one item more
+items_suc : (m : Bits) (ps : List (List ℕ)) (n : ℕ) (p : List ℕ) → n < length ps → p ≡ get_or ps n p → items m (take (suc n) ps) ≡ and_then (items m (take n ps)) (λ k. item k p)
 unfolding items and_then
-items_good m n p ps e = rw e
+items_suc m [] n p h e = absurd (omega arith)
+items_suc m (q ∷ ps) zero p h e = rw e (and_granted (item m q))
+items_suc m (q ∷ ps) (suc n) p h e = step (λ k. items_suc k ps n p (omega arith) e) (item m q)
+  where
+    step : ((k : Bits) → items k (take (suc n) ps) ≡ and_then (items k (take n ps)) (λ j. item j p)) → (o : Outcome Bits) → and_then o (λ k. items k (take (suc n) ps)) ≡ and_then (and_then o (λ k. items k (take n ps))) (λ k. item k p)
+    step f (granted k) = f k
+    step f (refused e) = refl
+
+pub items_more : (m k : Bits) (ps : List (List ℕ)) (n : ℕ) (p : List ℕ) → n < length ps → p ≡ get_or ps n p → items m (take n ps) ≡ granted k → items m (take (n + 1) ps) ≡ item k p
+unfolding and_then
+items_more m k ps n p h e g = rw (add-one, items_suc m ps n p h e, g)
 
 -- an item that is refused ends the list
-pub items_bad : (m : Bits) (p : List ℕ) (ps : List (List ℕ)) {n : Errno} → item m p ≡ refused n → items m (p ∷ ps) ≡ refused n
+pub items_bad : (m k : Bits) (ps : List (List ℕ)) (n : ℕ) (p : List ℕ) {e : Errno} → n < length ps → p ≡ get_or ps n p → items m (take n ps) ≡ granted k → item k p ≡ refused e → items m ps ≡ refused e
 unfolding items and_then
-items_bad m p ps e = rw e
-
--- an item with a byte or more is its sign and its number
-pub item_some : (m : Bits) (s : List ℕ) → 0 < length s → item m s ≡ signed (get_or s 0 0) m (number_rule 255 (take (length s - 1) (drop 1 s)))
-unfolding item
-item_some m [] h = absurd (omega arith)
-item_some m (c ∷ cs) h = rw (take_all (length (c ∷ cs) - 1) cs (omega arith))
-
-pub item_none : (m : Bits) (s : List ℕ) → length s ≡ 0 → item m s ≡ refused Einval
-unfolding item
-item_none m [] h = refl
-item_none m (c ∷ cs) h = absurd (omega arith)
+items_bad m k [] n p h q g b = absurd (omega arith)
+items_bad m k (x ∷ ps) zero p {e} h q g b = let same : m ≡ k = cc in let bad : item m x ≡ refused e = rw (same, ← q) b in rw bad
+items_bad m k (x ∷ ps) (suc n) p {e} h q g b = step (λ j r. items_bad j k ps n p (omega arith) q r b) (item m x) g
+  where
+    step : ((j : Bits) → items j (take n ps) ≡ granted k → items j ps ≡ refused e) → (o : Outcome Bits) → and_then o (λ j. items j (take n ps)) ≡ granted k → and_then o (λ j. items j ps) ≡ refused e
+    step f (granted j) r = f j r
+    step f (refused i) r = cc
 
 -- hex digits, one at a time
 pub all_hex_turn : (s : List ℕ) (i : ℕ) → i < length s → all_hex (drop i s) ≡ ltb (digit_of (get_or s i 0)) 16 && all_hex (drop (i + 1) s)
@@ -139,23 +75,6 @@ all_hex_turn s i h = rw (add-one, drop-cons s i 0 h)
 pub all_hex_end : (s : List ℕ) (i : ℕ) → length s ≤ i → all_hex (drop i s) ≡ true
 unfolding all_hex
 all_hex_end s i h = rw (drop_of_length-le s {i = i} h)
-
--- the digits of a mask: too few, too many, another byte among them, or right
-pub hex_few : (ds : List ℕ) → length ds < 1 → hex_mask ds ≡ refused Einval
-unfolding hex_mask
-hex_few ds h = rw (lt-leb 1 (length ds) h)
-
-pub hex_many : (ds : List ℕ) → 64 < length ds → hex_mask ds ≡ refused Einval
-unfolding hex_mask
-hex_many ds h = rw (le-leb 1 (length ds) (omega arith), lt-leb (length ds) 64 h)
-
-pub hex_other : (ds : List ℕ) → 1 ≤ length ds → length ds ≤ 64 → all_hex ds ≡ false → hex_mask ds ≡ refused Einval
-unfolding hex_mask
-hex_other ds h l e = rw (le-leb 1 (length ds) h, le-leb (length ds) 64 l, e)
-
-pub hex_right : (ds : List ℕ) → 1 ≤ length ds → length ds ≤ 64 → all_hex ds ≡ true → hex_mask ds ≡ granted (bit_at 4 (map digit_of ds))
-unfolding hex_mask
-hex_right ds h l e = rw (le-leb 1 (length ds) h, le-leb (length ds) 64 l, e)
 
 -- no numbers have no bits
 pub bits_none : (w : ℕ) → bit_at w [] ≡ no_bits
@@ -173,12 +92,9 @@ bits_more : (w : ℕ) (xs : List ℕ) (v : ℕ) → bit_at w (xs ++ (v ∷ [])) 
 unfolding bit_at either group
 bits_more w xs v = fun_ext (λ i. more v (w - 1 - i % w) xs (i / w))
 
--- one digit more, at index i of a text whose digits start at index 2
-pub hex_turn : (s : List ℕ) (i : ℕ) → 2 ≤ i → i < length s
-    → bit_at 4 (map digit_of (take (i + 1 - 2) (drop 2 s))) ≡ either (bit_at 4 (map digit_of (take (i - 2) (drop 2 s)))) (group 4 (i - 2) (digit_of (get_or s i 0)))
-hex_turn s i h l =
-    let j : i + 1 - 2 ≡ suc (i - 2) = omega arith in
-    let n : i - 2 < length (drop 2 s) = simp length-drop (omega arith) in
-    let z : 2 + (i - 2) ≡ i = omega arith in
-    let q : length (map digit_of (take (i - 2) (drop 2 s))) ≡ i - 2 = length-map (take (i - 2) (drop 2 s)) digit_of ∙ length-take-le (i - 2) (drop 2 s) (omega arith) in
-    rw (j, take-suc (drop 2 s) (i - 2) 0 n, map-append, get_or-drop 2 s (i - 2) 0, z, bits_more 4 (map digit_of (take (i - 2) (drop 2 s))) (digit_of (get_or s i 0)), q)
+-- one digit more
+pub hex_turn : (s : List ℕ) (i : ℕ) → i < length s
+    → bit_at 4 (map digit_of (take (i + 1) s)) ≡ either (bit_at 4 (map digit_of (take i s))) (group 4 i (digit_of (get_or s i 0)))
+hex_turn s i l =
+    let q : length (map digit_of (take i s)) ≡ i = length-map (take i s) digit_of ∙ length-take-le i s (omega arith) in
+    rw (add-one, take-suc s i 0 l, map-append, bits_more 4 (map digit_of (take i s)) (digit_of (get_or s i 0)), q)

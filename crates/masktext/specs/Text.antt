@@ -1,16 +1,18 @@
 -- The text of a mask (RULES.md, "Text"): hex digits after 0x, or a list of items that are worked on the old mask.
 -- Assumes nothing.
-use Rattle.std.specs.Prelude.{ℕ, Bool, true, cond, ◌&&◌, List, [], ◌∷◌, map, length, drop, eqb, ltb, leb}
+use Rattle.std.specs.Prelude.{ℕ, Bool, true, cond, ◌&&◌, List, [], ◌∷◌, map, length, drop, eqb, ltb, leb, Result, Ok, Err}
 use Rattle.errno.specs.Outcome.{Outcome, granted, refused}
+use Rattle.errno.specs.declared.Errno.{Errno}
 use Rattle.errno.specs.declared.Errno.TheVariants.{Einval}
+use Rattle.mask.specs.declared.Mask.{Mask}
 use Rattle.mask.specs.Bits.{Bits, bits, bit_at, included, excluded}
 use Rattle.digits.specs.Digits.{digit_of, body, starts_hex}
 use Rattle.number.specs.Text.{number_rule}
-use Rattle.masktext.specs.declared.MaskRead.{MaskRead}
 
--- what an answer comes to: bad text is EINVAL
-unfoldable pub outcome : MaskRead → Outcome Bits
-outcome r = cond r.good (granted (bits r.mask)) (refused Einval)
+-- the outcome of an answer, of a mask by its bits
+unfoldable pub outcome : Result Mask Errno → Outcome Bits
+outcome (Ok m) = granted (bits m)
+outcome (Err e) = refused e
 
 -- whether every byte is a hex digit
 unfoldable pub all_hex : List ℕ → Bool

@@ -3,142 +3,63 @@
 // Rests on mask, errno, digits, maskbytes and number.
 #![tactic(auto)]
 
-ghost use Rattle.std.specs.Prelude.{◌≡◌, ℕ, ◌<◌, ◌≤◌, false, length, get_or, drop};
-ghost use Rattle.errno.specs.Outcome.{granted, refused};
-ghost use Rattle.errno.specs.declared.Errno.TheVariants.{Einval};
+ghost use Rattle.std.specs.Prelude.{◌≡◌};
 ghost use Rattle.mask.specs.Bits.{bits};
 ghost use Rattle.masktext.specs.Text.{outcome, hex_mask, parts, mask_text};
 ghost use Rattle.masktext.specs.Text as Text;
 
+use errno::Errno;
 use mask::Mask;
 
-// What reading a text finds: the new mask, or the old one where the text is bad.
-#[derive(Clone, Copy)]
-pub struct MaskRead {
-    pub good: bool,
-    pub mask: Mask,
-}
-
 // A mask as a user writes it, with or without a final newline.
-pub fn parse(s: &[u8], old: Mask) -> MaskRead
-    ensures result_value { outcome result ≡ mask_text s.now (bits old) }
-    ensures mask_value { result.good ≡ false → result.mask ≡ old }
+#[tactic(auto, using(digits::proofs::Laws::prefix_is), unfolding(crate::specs::Text::mask_text))]
+pub fn parse(s: &[u8], old: Mask) -> Result<Mask, Errno>
+    ensures { outcome result ≡ mask_text s.now (bits old) }
 {
-    let n = digits::body_len(s);
-    let b = &s[..n];
-    if digits::starts_hex(b) {
-        return hex_mask(b, old);
+    let b = digits::body(s);
+    match b.strip_prefix(b"0x") {
+        Some(hex) => hex_mask(hex),
+        None => items(b, old),
     }
-    items(b, old)
 }
 
-// The hex digits of s after its first two bytes.
-fn hex_mask(s: &[u8], old: Mask) -> MaskRead
-    ensures result_value { outcome result ≡ hex_mask (drop 2 s.now) }
-    ensures mask_value { result.good ≡ false → result.mask ≡ old }
+// The hex digits of a mask.
+#[tactic(auto, using(std::proofs::lemmas::Bool::Decides::nat_tests), unfolding(crate::specs::Text::outcome, crate::specs::Text::hex_mask, crate::specs::Text::all_hex))]
+fn hex_mask(s: &[u8]) -> Result<Mask, Errno>
+    ensures { outcome result ≡ hex_mask s.now }
 {
-    if s.len() < 3 {
-        return bad(old);
-    }
-    if 66 < s.len() {
-        return bad(old);
+    if s.is_empty() || 64 < s.len() {
+        return Err(Errno::Einval);
     }
     let mut m = Mask::empty();
-    let mut i = 2usize;
-    while i < s.len() {
-        let d = digits::digit_of(s[i]);
-        if 15 < d {
-            return bad(old);
-        }
-        m = maskbytes::with_nibble(m, (i - 2) as u8, d);
-        i += 1;
+    for (i, c) in s.iter().enumerate() {
+        let d = digits::digit_of(*c).ok_or(Errno::Einval)?;
+        m = maskbytes::with_nibble(m, i as u8, d);
     }
-    MaskRead {
-        good: true,
-        mask: m,
-    }
-}
-
-fn bad(old: Mask) -> MaskRead
-    ensures result_value { outcome result ≡ refused Einval }
-    ensures mask_value { result.good ≡ false → result.mask ≡ old }
-{
-    MaskRead {
-        good: false,
-        mask: old,
-    }
+    Ok(m)
 }
 
 // The items of s, worked on the old mask.
-fn items(s: &[u8], old: Mask) -> MaskRead
-    ensures result_value { outcome result ≡ Text.items (bits old) (parts s.now) }
-    ensures mask_value { result.good ≡ false → result.mask ≡ old }
+fn items(s: &[u8], old: Mask) -> Result<Mask, Errno>
+    ensures { outcome result ≡ Text.items (bits old) (parts s.now) }
 {
     let mut m = old;
-    let mut at = 0usize;
-    loop {
-        let e = comma(s, at);
-        let next = item(&s[at..e], m);
-        if !next.good {
-            return bad(old);
-        }
-        m = next.mask;
-        if e == s.len() {
-            return MaskRead {
-                good: true,
-                mask: m,
-            };
-        }
-        at = e + 1;
+    for part in s.split(|c| *c == b',') {
+        m = item(part, m)?;
     }
-}
-
-// The first comma of s at or after an index, or the length of s.
-fn comma(s: &[u8], from: usize) -> usize
-    requires { from ≤ length s.now }
-    ensures within { (from ≤ result) × (result ≤ length s.now) }
-    ensures passed { (k : ℕ) → k < result → from ≤ k → get_or s.now k 0 ≡ 44 → ⊥ }
-    ensures found { result < length s.now → get_or s.now result 0 ≡ 44 }
-{
-    let mut i = from;
-    while i < s.len() {
-        if s[i] == b',' {
-            return i;
-        }
-        i += 1;
-    }
-    i
+    Ok(m)
 }
 
 // One item, worked on a mask.
-fn item(s: &[u8], m: Mask) -> MaskRead
-    ensures result_value { outcome result ≡ Text.item (bits m) s.now }
-    ensures mask_value { result.good ≡ false → result.mask ≡ m }
+#[tactic(auto, using(std::proofs::lemmas::Bool::Decides::nat_tests, number::proofs::Laws::rule_le), unfolding(errno::specs::Outcome::outcome, crate::specs::Text::outcome, crate::specs::Text::item, crate::specs::Text::signed))]
+fn item(s: &[u8], m: Mask) -> Result<Mask, Errno>
+    ensures { outcome result ≡ Text.item (bits m) s.now }
 {
-    if s.len() == 0 {
-        return bad(m);
+    let (sign, number) = s.split_first().ok_or(Errno::Einval)?;
+    let n = number::parse_at_most(number, 255)? as u8;
+    match *sign {
+        b'+' => Ok(m.with(n)),
+        b'-' => Ok(m.without(n)),
+        _ => Err(Errno::Einval),
     }
-    match number::parse_at_most(&s[1..], 255) {
-        number::Number::Value(n) => signed(s[0], (n % 256) as u8, m),
-        number::Number::Bad => bad(m),
-    }
-}
-
-fn signed(sign: u8, n: u8, m: Mask) -> MaskRead
-    ensures result_value { outcome result ≡ Text.signed sign (bits m) (granted n) }
-    ensures mask_value { result.good ≡ false → result.mask ≡ m }
-{
-    if sign == b'+' {
-        return MaskRead {
-            good: true,
-            mask: m.with(n),
-        };
-    }
-    if sign == b'-' {
-        return MaskRead {
-            good: true,
-            mask: m.without(n),
-        };
-    }
-    bad(m)
 }

@@ -1,50 +1,46 @@
--- `items` meets its contract. The invariant: the items left, worked on the mask so far, give the answer for all of them.
-use Prim.Native.Nat.{◌<◌}
-use native.Mathlib.Omega.{arith}
-use mathlib.Core.Bool.{true≢false}
-use mathlib.Core.Path.{refl, sym, ap, ◌∙◌}
-use mathlib.Core.List.{[]}
-use lib.ListN.{length}
+-- `items` meets its contract: the parts that `split` gives are worked one by one.
+use Rattle.std.proofs.Common.{◌≡◌, length, take, refl, sym, ◌∙◌, arith, rules, tests, length-append}
+use Rattle.std.proofs.lemmas.Iterator.Consumers.{YieldsList-at, YieldsList-turn, YieldsList-end}
+use Rattle.std.proofs.lemmas.Iterator.Splits.{YieldsList-from_slice_split}
+use lib.Dec.{eqb}
+use lib.Seq.{take_all}
 use Rattle.mask.specs.Bits.{bits}
-use Rattle.masktext.specs.Text.{outcome, items}
-use Rattle.masktext.proofs.Laws.{parts_at_end, parts_at_comma, parts_at, items_good, items_bad, outcome_bad, outcome_good}
+use Rattle.masktext.specs.Text.{outcome, items, parts}
+use Rattle.masktext.proofs.Laws.{passed, parts_split, items_more, items_bad}
 use Rattle.masktext.proofs.items.Goals as goal
 
-pub returns-then-not-next : goal.returns-then-not-next
-returns-then-not-next c =
-    let a = c.args in
-    let l = c.loop-next in
-    let e = c.comma-e in
-    let t = c.item-next in
-    let p = parts_at a.s.now l.at e.result e.ensures.within.0 e.ensures.within.1 e.ensures.passed e.ensures.found in record {
-      result_value = c.bad.ensures.result_value
-          ∙ sym (l.invariant.1 ∙ ap (items (bits l.m)) p.1 ∙ items_bad (bits l.m) _ p.0 (sym t.ensures.result_value ∙ outcome_bad t.result c.if-not-next.true));
-      mask_value = c.bad.ensures.mask_value;
-    }
+pub loop-part-init : goal.loop-part-init
+unfolding items
+loop-part-init c = refl
 
-pub returns-then-e-s : goal.returns-then-e-s
-unfolding outcome items
-returns-then-e-s c =
-    let a = c.args in
-    let l = c.loop-next in
-    let e = c.comma-e in
-    let t = c.item-next in record {
-      result_value = sym (l.invariant.1 ∙ ap (items (bits l.m)) (parts_at_end a.s.now l.at e.result e.ensures.within.0 c.if-e-s.true e.ensures.passed)
-          ∙ items_good (bits l.m) (bits t.result.mask) _ [] (sym t.ensures.result_value ∙ outcome_good t.result c.if-not-next.false));
-      mask_value = λ q. absurd (true≢false q);
-    }
+pub loop-part-preserved : goal.loop-part-preserved
+unfolding outcome
+loop-part-preserved c =
+    let at = YieldsList-turn (YieldsList-at c.into_iter-part-iterator.ensures.into_iter_gives
+    (YieldsList-from_slice_split _ (λ b. eqb b 44) c.args.s.now c.split-part-items.ensures.rest c.split-part-items.ensures.done
+    c.split-part-items.ensures.closure (λ x b q k. search (rules, tests))))
+    c.loop-part.yielded _ c.loop-part.yielded_by c.next.result _ c.in-Some.part c.in-Some.is c.next.ensures.steps in
+    let here = rw (← parts_split c.args.s.now) at at in
+    rw length-append (items_more (bits c.args.old) (bits c.loop-part.m) (parts c.args.s.now) (length c.loop-part.yielded) c.in-Some.part.now here.0 here.1 c.loop-part.invariant ∙ sym c.in_ok-m.ensures)
 
-pub loop-next-preserved : goal.loop-next-preserved
-loop-next-preserved c =
-    let a = c.args in
-    let l = c.loop-next in
-    let e = c.comma-e in
-    let t = c.item-next in
-    let more : e.result < length a.s.now = omega arith in (
-      omega arith,
-      l.invariant.1 ∙ ap (items (bits l.m)) (parts_at_comma a.s.now l.at e.result e.ensures.within.0 more (e.ensures.found more) e.ensures.passed)
-          ∙ items_good (bits l.m) (bits t.result.mask) _ _ (sym t.ensures.result_value ∙ outcome_good t.result c.if-not-next.false),
-    )
+pub returns : goal.returns
+unfolding outcome
+returns c =
+    let end = YieldsList-end (YieldsList-at c.into_iter-part-iterator.ensures.into_iter_gives
+    (YieldsList-from_slice_split _ (λ b. eqb b 44) c.args.s.now c.split-part-items.ensures.rest c.split-part-items.ensures.done
+    c.split-part-items.ensures.closure (λ x b q k. search (rules, tests))))
+    c.loop-part.yielded _ c.loop-part.yielded_by c.next.result _ c.in-None.is c.next.ensures.steps in
+    let all = rw (← parts_split c.args.s.now) at end.1 in
+    let whole : take (length c.loop-part.yielded) (parts c.args.s.now) ≡ parts c.args.s.now = take_all _ _ (omega arith) in
+    sym (rw whole at c.loop-part.invariant)
 
-pub loop-next-init : goal.loop-next-init
-loop-next-init c = (omega arith, refl)
+pub returns-in_err-m : goal.returns-in_err-m
+unfolding outcome
+returns-in_err-m c =
+    let at = YieldsList-turn (YieldsList-at c.into_iter-part-iterator.ensures.into_iter_gives
+    (YieldsList-from_slice_split _ (λ b. eqb b 44) c.args.s.now c.split-part-items.ensures.rest c.split-part-items.ensures.done
+    c.split-part-items.ensures.closure (λ x b q k. search (rules, tests))))
+    c.loop-part.yielded _ c.loop-part.yielded_by c.next.result _ c.in-Some.part c.in-Some.is c.next.ensures.steps in
+    let here = rw (← parts_split c.args.s.now) at at in
+    passed _ _ c.from_residual.ensures.1
+    ∙ sym (items_bad (bits c.args.old) (bits c.loop-part.m) (parts c.args.s.now) (length c.loop-part.yielded) c.in-Some.part.now here.0 here.1 c.loop-part.invariant (sym c.in_err-m.ensures))
