@@ -33,19 +33,18 @@ pub same_bytes : (b xs : List ℕ) (k n : ℕ) → length xs ≡ n → ((j : ℕ
 same_bytes b xs k n l h =
     ext_get_or 0 xs (bytes_at b k n) (l ∙ sym (bytes_long b k n)) (λ j hj. h j (omega arith) ∙ sym (bytes_at_lem b k n j (omega arith)))
 
--- a bit of 32 bytes that are those from an index on
-bit_from : (b xs : List ℕ) (k i : ℕ) → ((j : ℕ) → j < 32 → get_or xs j 0 ≡ get_or b (k + j) 0) → i < 256 → bit_at 8 xs i ≡ bit_at 8 b (k * 8 + i)
+-- a bit of the 32 bytes from an index on
+bit_from : (b : List ℕ) (k i : ℕ) → i < 256 → bit_at 8 (bytes_at b k 32) i ≡ bit_at 8 b (k * 8 + i)
 unfolding bit_at
-bit_from b xs k i h l =
+bit_from b k i l =
     let byte : k + i / 8 ≡ (k * 8 + i) / 8 = omega arith in
     let slot : i % 8 ≡ (k * 8 + i) % 8 = omega arith in
-    ap₂ (λ (x p : ℕ). digit x (7 - p)) (h (i / 8) (omega arith) ∙ ap (λ (q : ℕ). get_or b q 0) byte) slot
+    ap₂ (λ (x p : ℕ). digit x (7 - p)) (bytes_at_lem b k 32 (i / 8) (omega arith) ∙ ap (λ (q : ℕ). get_or b q 0) byte) slot
 
--- a mask whose 32 bytes are those from an index on is the mask there
-pub same_mask : (b xs : List ℕ) (k : ℕ) (m : Mask) → Sized 64 4 m.words → bits m ≡ bit_at 8 xs
-    → ((j : ℕ) → j < 32 → get_or xs j 0 ≡ get_or b (k + j) 0) → m ≡ mask_of b k
+-- a mask with the bits of the 32 bytes from an index on is the mask there
+pub same_mask : (b xs : List ℕ) (k : ℕ) (m : Mask) → Sized 64 4 m.words → xs ≡ bytes_at b k 32 → bits m ≡ bit_at 8 xs → m ≡ mask_of b k
 unfolding mask_of
-same_mask b xs k m w e h =
+same_mask b xs k m w h e =
     ap (λ (ws : List ℕ). record { words = ws })
     (same_bits {xs = m.words} (omega arith) w (numbers_words 64 4 (bit_at 8 b) (k * 8))
-    (λ i l. ap (λ (f : ℕ → Bool). f i) e ∙ bit_from b xs k i h l ∙ sym (numbers_bits 64 4 (bit_at 8 b) (k * 8) i (omega arith) l)))
+    (λ i l. ap (λ (f : ℕ → Bool). f i) (e ∙ ap (bit_at 8) h) ∙ bit_from b k i l ∙ sym (numbers_bits 64 4 (bit_at 8 b) (k * 8) i (omega arith) l)))

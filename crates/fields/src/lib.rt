@@ -19,8 +19,7 @@ pub const CONFIGURATION_BYTES: usize = 352;
 pub fn number_of(bytes: &[u8]) -> u32
     ensures { result ≡ half_at bytes.now 0 }
 {
-    let n = half_at(bytes, 0);
-    (n % 4294967296) as u32
+    half_at(bytes, 0)
 }
 
 // The id of the first sixteen bytes.
@@ -37,13 +36,11 @@ pub fn id_of(bytes: &[u8]) -> Id
 pub fn kind_of(n: u8) -> Kind
     ensures { result ≡ kind_of n }
 {
-    if n == 0 {
-        return Kind::Adapter;
+    match n {
+        0 => Kind::Adapter,
+        1 => Kind::Domain,
+        _ => Kind::Control,
     }
-    if n == 1 {
-        return Kind::Domain;
-    }
-    Kind::Control
 }
 
 // The configuration of three masks of 32 bytes and 256 types.
@@ -54,7 +51,7 @@ pub fn configuration_of(bytes: &[u8]) -> Configuration
         adapters: mask_of(bytes, 0),
         domains: mask_of(bytes, 32),
         controls: mask_of(bytes, 64),
-        types: types_of(bytes),
+        types: bytes_at(bytes, 96),
     }
 }
 
@@ -62,53 +59,47 @@ fn word_at(bytes: &[u8], at: usize) -> u64
     requires { at ≤ 8 }
     ensures { result ≡ word_at bytes.now at }
 {
-    half_at(bytes, at) * 4294967296 + half_at(bytes, at + 4)
+    u64::from(half_at(bytes, at)) << 32 | u64::from(half_at(bytes, at + 4))
 }
 
-fn half_at(bytes: &[u8], at: usize) -> u64
+fn half_at(bytes: &[u8], at: usize) -> u32
     requires { at ≤ 12 }
-    ensures { (result ≡ half_at bytes.now at) × (result < 4294967296) }
+    ensures { result ≡ half_at bytes.now at }
 {
     // One test where all four are there.
     if at + 3 < bytes.len() {
-        return maskbytes::big_endian(bytes[at], bytes[at + 1], bytes[at + 2], bytes[at + 3]);
+        return u32::from_be_bytes([bytes[at], bytes[at + 1], bytes[at + 2], bytes[at + 3]]);
     }
-    maskbytes::big_endian(
+    u32::from_be_bytes([
         byte_at(bytes, at),
         byte_at(bytes, at + 1),
         byte_at(bytes, at + 2),
         byte_at(bytes, at + 3),
-    )
+    ])
 }
 
 // The byte at an index, or 0 past the end.
 fn byte_at(bytes: &[u8], i: usize) -> u8
     ensures { result ≡ get_or bytes.now i 0 }
 {
-    if i < bytes.len() { bytes[i] } else { 0 }
+    bytes.get(i).copied().unwrap_or(0)
 }
 
 fn mask_of(bytes: &[u8], at: usize) -> Mask
     requires { at ≤ 64 }
     ensures { result ≡ mask_of bytes.now at }
 {
-    let mut out = [0u8; 32];
-    let mut i = 0usize;
-    while i < 32 {
-        out[i] = byte_at(bytes, at + i);
-        i += 1;
-    }
-    maskbytes::from_bytes(out)
+    maskbytes::from_bytes(bytes_at(bytes, at))
 }
 
-fn types_of(bytes: &[u8]) -> [u8; 256]
-    ensures { result ≡ bytes_at bytes.now 96 256 }
+// The bytes from an index on.
+fn bytes_at<const N: usize>(bytes: &[u8], at: usize) -> [u8; N]
+    requires { at + N ≤ 352 }
+    ensures { result ≡ bytes_at bytes.now at N }
 {
-    let mut types = [0u8; 256];
-    let mut i = 0usize;
-    while i < 256 {
-        types[i] = byte_at(bytes, 96 + i);
-        i += 1;
+    let mut out = [0; N];
+    for (i, byte) in out.iter_mut().enumerate() {
+        *byte = byte_at(bytes, at + i);
     }
-    types
+    out
 }

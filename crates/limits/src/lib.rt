@@ -33,7 +33,7 @@ fn beyond(limit: u8) -> Mask
     ensures { bits result ≡ bits_above limit }
 {
     let k = limit / 64;
-    let part = (1u64 << (63 - (limit % 64) as u32)) - 1;
+    let part = (1u64 << (63 - limit % 64)) - 1;
     Mask {
         words: [
             beyond_word(k, 0, part),
@@ -50,7 +50,9 @@ fn beyond_word(k: u8, j: u8, part: u64) -> u64
 {
     if k < j {
         u64::MAX
+    } else if k == j {
+        part
     } else {
-        if k == j { part } else { 0 }
+        0
     }
 }

@@ -9,7 +9,8 @@ use mathlib.Core.Bool.{Bool, true, false, cond, not, ◌&&◌, ◌||◌}
 use lib.Dec.{eqb, ltb, leb, eqb-suc-zero}
 use lib.Arith.{lt-one, digits_div}
 use lib.Pow.{shl_exact, pow_pos, pow_mono, pow-add, shr-shr, shr_lt, high, ones_lt, ones_split}
-use lib.Bits.{bit_and, bit_or, bit_xor, differ, and_shr, or_shr, xor_shr, and_step, or_step, xor_step}
+use lib.Bits.{bit_and, bit_or, bit_xor, differ, and_shr, or_shr, xor_shr, and_step, or_step, xor_step, and_self, xor_add_and}
+use Rattle.std.proofs.lemmas.Nat.{and_comm, and_assoc, and-not}
 use borrow.Author.Tests.{leb-true, leb-false, ltb-true, ltb-false, eqb-true, eqb-false, eq-eqb, ne_eqb}
 use Rattle.mask.specs.Bits.{digit}
 
@@ -60,10 +61,17 @@ unlike_and : (a b : Bool) → unlike a (a && b) ≡ (a && not b)
 unlike_and true b = refl
 unlike_and false b = refl
 
--- a with the digits of b cleared
-pub digit_clear : (a b k : ℕ) → digit (bit_xor a (bit_and a b)) k ≡ (digit a k && not (digit b k))
-digit_clear a b k =
-    digit_xor a (bit_and a b) k ∙ ap (λ (d : Bool). unlike (digit a k) d) (digit_and a b k) ∙ unlike_and (digit a k) (digit b k)
+-- `a & !b` at w bits: a with the digits of b cleared
+pub digit_clear : (w a b k : ℕ) → a < 2 ^ w → b < 2 ^ w → digit (bit_and a (2 ^ w - 1 - b)) k ≡ (digit a k && not (digit b k))
+digit_clear w a b k ha hb =
+    ap (λ (x : ℕ). digit x k) cleared
+    ∙ digit_xor a (bit_and a b) k ∙ ap (λ (d : Bool). unlike (digit a k) d) (digit_and a b k) ∙ unlike_and (digit a k) (digit b k)
+  where
+    twice : bit_and a (bit_and a b) ≡ bit_and a b
+    twice = sym (and_assoc b a a) ∙ ap (λ (x : ℕ). bit_and x b) (and_self a)
+
+    cleared : bit_and a (2 ^ w - 1 - b) ≡ bit_xor a (bit_and a b)
+    cleared = omega (arith, and_comm a (2 ^ w - 1 - b), and_comm b a, and-not w b a hb ha, xor_add_and a (bit_and a b), twice)
 
 -- ---- a number put together from a high part h and t digits v
 

@@ -11,8 +11,8 @@ use lib.ListN.{length, get_or, set, replicate, get_or-replicate, get_or-eq_defau
 use lib.Seq.{ext_get_or, get_or-set_same, get_or-set_other}
 use lib.Dec.{eqb, ltb}
 use lib.Arith.{lt-one, digits_lt, digits_div, digits_mod}
-use lib.Pow.{pow_pos}
-use lib.Bits.{bit_and, bit_or, bit_xor, or_add_and, and_le_l, and_le_r}
+use lib.Pow.{pow_pos, pow-lt}
+use lib.Bits.{bit_and, bit_or, or_add_and, and_le_l, and_le_r}
 use lib.Count.{ones, ones_in, ones_step}
 use borrow.Author.Rules.{rules, elem_Fits}
 use borrow.Author.Tests.{ltb-true, ltb-false, eqb-true, eqb-false, eq-eqb, ne_eqb, lt-ltb, le-ltb}
@@ -21,7 +21,7 @@ use mir.Syntax.{w64}
 use denote.Laws.{Is}
 use Rattle.mask.specs.declared.Mask.{Mask}
 use Rattle.mask.specs.contracts.Mask.{the_row}
-use Rattle.mask.specs.Bits.{Sized, Bits, digit, bit_at, bits, no_bits, all_bits, included, excluded, some_below, count_below, number, numbers}
+use Rattle.mask.specs.Bits.{Small, Sized, Bits, digit, bit_at, bits, no_bits, all_bits, included, excluded, some_below, count_below, number, numbers}
 use Rattle.mask.proofs.Bit.{digit_or, digit_clear, digit_zero, digit_ones, one_shl, digit_pow, digit_mod, digit_half, half_small, digit_snoc, digit_last, same_digits, some_digit}
 
 -- two tests that follow from each other are one
@@ -90,34 +90,37 @@ other_place : (w i j : ℕ) → eqb (j / w) (i / w) ≡ false → eqb j i ≡ fa
 other_place w i j e = ne_eqb j i (λ q. eqb-false (j / w) (i / w) e (ap (λ (k : ℕ). k / w) q))
 
 -- bit i of numbers put, by an operation with its digit that works digit by digit
-bit_put : (op : ℕ → ℕ → ℕ) (g : Bool → Bool → Bool) → ((a b k : ℕ) → digit (op a b) k ≡ g (digit b k) (digit a k)) → ((b : Bool) → g false b ≡ b)
-    → (w i j : ℕ) (xs : List ℕ) → 0 < w → i / w < length xs
+bit_put : (op : ℕ → ℕ → ℕ) (g : Bool → Bool → Bool) → (w : ℕ)
+    → ((a b k : ℕ) → a < 2 ^ w → b < 2 ^ w → digit (op a b) k ≡ g (digit b k) (digit a k)) → ((b : Bool) → g false b ≡ b)
+    → (i j : ℕ) (xs : List ℕ) → 0 < w → Small w xs → i / w < length xs
     → bit_at w (set xs (i / w) (op (get_or xs (i / w) 0) (2 ^ (w - 1 - i % w)))) j ≡ g (eqb j i) (bit_at w xs j)
 unfolding bit_at
-bit_put op g law none w i j xs p h = set_bits_lem w (i / w) (op (get_or xs (i / w) 0) (2 ^ (w - 1 - i % w))) j xs h ∙ go (eqb (j / w) (i / w)) refl
+bit_put op g w law none i j xs p small h = set_bits_lem w (i / w) (op (get_or xs (i / w) 0) (2 ^ (w - 1 - i % w))) j xs h ∙ go (eqb (j / w) (i / w)) refl
   where
     go : (b : Bool) → eqb (j / w) (i / w) ≡ b
         → cond b (digit (op (get_or xs (i / w) 0) (2 ^ (w - 1 - i % w))) (w - 1 - j % w)) (bit_at w xs j) ≡ g (eqb j i) (bit_at w xs j)
     go true e =
         let q : j / w ≡ i / w = eqb-true (j / w) (i / w) e in
-        law (get_or xs (i / w) 0) (2 ^ (w - 1 - i % w)) (w - 1 - j % w)
+        law (get_or xs (i / w) 0) (2 ^ (w - 1 - i % w)) (w - 1 - j % w) (small (i / w)) (pow-lt (omega arith))
         ∙ ap₂ g (digit_pow (w - 1 - i % w) (w - 1 - j % w) ∙ same_place w i j p q) (ap (λ (k : ℕ). digit (get_or xs k 0) (w - 1 - j % w)) (sym q))
     go false e = sym (ap (λ (b : Bool). g b (bit_at w xs j)) (other_place w i j e) ∙ none (bit_at w xs j))
 
 -- the bits of numbers that are made one by one from those of two lists, by an operation that works digit by digit
 pub op_bits : (w n : ℕ) (xs ys zs : List ℕ) (op : ℕ → ℕ → ℕ) (g : Bool → Bool → Bool)
-    → ((a b k : ℕ) → digit (op a b) k ≡ g (digit a k) (digit b k)) → g false false ≡ false
-    → length xs ≡ n → length ys ≡ n → length zs ≡ n → ((q : ℕ) → q < n → get_or zs q 0 ≡ op (get_or xs q 0) (get_or ys q 0))
+    → ((a b k : ℕ) → a < 2 ^ w → b < 2 ^ w → digit (op a b) k ≡ g (digit a k) (digit b k)) → g false false ≡ false
+    → Sized w n xs → Sized w n ys → length zs ≡ n → ((q : ℕ) → q < n → get_or zs q 0 ≡ op (get_or xs q 0) (get_or ys q 0))
     → (i : ℕ) → bit_at w zs i ≡ g (bit_at w xs i) (bit_at w ys i)
 unfolding bit_at
 op_bits w n xs ys zs op g law none hx hy hz each i = go (ltb (i / w) n) refl
   where
     go : (b : Bool) → ltb (i / w) n ≡ b
         → digit (get_or zs (i / w) 0) (w - 1 - i % w) ≡ g (digit (get_or xs (i / w) 0) (w - 1 - i % w)) (digit (get_or ys (i / w) 0) (w - 1 - i % w))
-    go true e = ap (λ (x : ℕ). digit x (w - 1 - i % w)) (each (i / w) (ltb-true (i / w) n e)) ∙ law (get_or xs (i / w) 0) (get_or ys (i / w) 0) (w - 1 - i % w)
+    go true e =
+        ap (λ (x : ℕ). digit x (w - 1 - i % w)) (each (i / w) (ltb-true (i / w) n e))
+        ∙ law (get_or xs (i / w) 0) (get_or ys (i / w) 0) (w - 1 - i % w) (hx.small (i / w)) (hy.small (i / w))
     go false e =
         let h : n ≤ i / w = ltb-false (i / w) n e in
-        none_at zs (w - 1 - i % w) hz h ∙ sym none ∙ ap₂ g (sym (none_at xs (w - 1 - i % w) hx h)) (sym (none_at ys (w - 1 - i % w) hy h))
+        none_at zs (w - 1 - i % w) hz h ∙ sym none ∙ ap₂ g (sym (none_at xs (w - 1 - i % w) hx.long h)) (sym (none_at ys (w - 1 - i % w) hy.long h))
 
 -- the bits of n numbers, each known at the digits of its own
 pub each_bits : (w n : ℕ) (xs : List ℕ) (m : Bits) → 0 < w → length xs ≡ n
@@ -327,11 +330,12 @@ below_four P a b c d (suc (suc (suc (suc q)))) h = absurd (omega arith)
 
 -- the bits of a mask that is made word by word from two
 pub mask_op : (x y : Mask) (op : ℕ → ℕ → ℕ) (g : Bool → Bool → Bool)
-    → ((a b k : ℕ) → digit (op a b) k ≡ g (digit a k) (digit b k)) → g false false ≡ false → {vs us : List Val} → Is the_row x vs → Is the_row y us
+    → ((a b k : ℕ) → a < 2 ^ 64 → b < 2 ^ 64 → digit (op a b) k ≡ g (digit a k) (digit b k)) → g false false ≡ false
+    → {vs us : List Val} → Is the_row x vs → Is the_row y us
     → bit_at 64 (map (λ q. op (get_or x.words q 0) (get_or y.words q 0)) (0 ∷ 1 ∷ 2 ∷ 3 ∷ [])) ≡ (λ i. g (bits x i) (bits y i))
 mask_op x y op g law none hx hy =
     fun_ext
-    (op_bits 64 4 x.words y.words zs op g law none (mask_words_lem x hx).long (mask_words_lem y hy).long refl
+    (op_bits 64 4 x.words y.words zs op g law none (mask_words_lem x hx) (mask_words_lem y hy) refl
     (below_four (λ q. get_or zs q 0 ≡ op (get_or x.words q 0) (get_or y.words q 0)) refl refl refl refl))
   where
     zs : List ℕ
@@ -339,19 +343,23 @@ mask_op x y op g law none hx hy =
 
 -- a mask with bit i put, by an operation with `1 << (63 - i % 64)`
 module _ (m : Mask) {vs : List Val} (h : Is the_row m vs) (i : ℕ) (l : i < 256) where
-  mask_put : (op : ℕ → ℕ → ℕ) (g : Bool → Bool → Bool) → ((a b k : ℕ) → digit (op a b) k ≡ g (digit b k) (digit a k)) → ((b : Bool) → g false b ≡ b)
+  mask_put : (op : ℕ → ℕ → ℕ) (g : Bool → Bool → Bool)
+      → ((a b k : ℕ) → a < 2 ^ 64 → b < 2 ^ 64 → digit (op a b) k ≡ g (digit b k) (digit a k)) → ((b : Bool) → g false b ≡ b)
       → bit_at 64 (set m.words (i / 64) (op (get_or m.words (i / 64) 0) (1 * 2 ^ (63 - i % 64) % 2 ^ 64))) ≡ (λ j. g (eqb j i) (bits m j))
   mask_put op g law none =
+      let r : Sized 64 4 m.words = mask_words_lem m h in
       rw (one_shl 64 (63 - i % 64) (omega arith))
-      (fun_ext (λ j. bit_put op g law none 64 i j m.words (omega arith) (omega (arith, (mask_words_lem m h).long))))
+      (fun_ext (λ j. bit_put op g 64 law none i j m.words (omega arith) r.small (omega (arith, r.long))))
 
   pub mask_set : bit_at 64 (set m.words (i / 64) (bit_or (get_or m.words (i / 64) 0) (1 * 2 ^ (63 - i % 64) % 2 ^ 64))) ≡ included i (bits m)
   unfolding included
-  mask_set = mask_put bit_or ◌||◌ (λ a b k. digit_or a b k ∙ or_comm (digit a k) (digit b k)) (λ b. refl)
+  mask_set = mask_put bit_or ◌||◌ (λ a b k _ _. digit_or a b k ∙ or_comm (digit a k) (digit b k)) (λ b. refl)
 
-  pub mask_clear : bit_at 64 (set m.words (i / 64) (bit_xor (get_or m.words (i / 64) 0) (bit_and (get_or m.words (i / 64) 0) (1 * 2 ^ (63 - i % 64) % 2 ^ 64)))) ≡ excluded i (bits m)
+  pub mask_clear : bit_at 64 (set m.words (i / 64) (bit_and (get_or m.words (i / 64) 0) (2 ^ 64 - 1 - 1 * 2 ^ (63 - i % 64) % 2 ^ 64))) ≡ excluded i (bits m)
   unfolding excluded
-  mask_clear = mask_put (λ a b. bit_xor a (bit_and a b)) (λ a b. not a && b) (λ a b k. digit_clear a b k ∙ and_comm (digit a k) (not (digit b k))) (λ b. refl)
+  mask_clear =
+      mask_put (λ a b. bit_and a (2 ^ 64 - 1 - b)) (λ a b. not a && b)
+      (λ a b k ha hb. digit_clear 64 a b k ha hb ∙ and_comm (digit a k) (not (digit b k))) (λ b. refl)
 
 -- the bits of words that are all zeros, and all ones
 pub zero_bits : bit_at 64 (replicate 4 0) ≡ no_bits

@@ -23,7 +23,7 @@ impl Mask {
     pub fn empty() -> Mask
         ensures { bits result ≡ no_bits }
     {
-        Mask { words: [0u64; 4] }
+        Mask { words: [0; 4] }
     }
 
     pub fn full() -> Mask
@@ -37,10 +37,7 @@ impl Mask {
     pub fn has(self, i: u8) -> bool
         ensures { result ≡ bits self i }
     {
-        let w = self.words;
-        let k = (i / 64) as usize;
-        let x = w[k];
-        (x >> (63 - (i % 64) as u32)) % 2 == 1
+        (self.words[(i / 64) as usize] >> (63 - i % 64)) % 2 == 1
     }
 
     // Whether a mask of adapters has an adapter.
@@ -57,22 +54,17 @@ impl Mask {
         self.has(domain.0)
     }
 
-    pub fn with(self, i: u8) -> Mask
+    pub fn with(mut self, i: u8) -> Mask
         ensures { bits result ≡ included i (bits self) }
     {
-        let mut w = self.words;
-        let k = (i / 64) as usize;
-        w[k] = w[k] | (1u64 << (63 - (i % 64) as u32));
-        Mask { words: w }
+        self.words[(i / 64) as usize] |= 1 << (63 - i % 64);
+        self
     }
 
-    pub fn without(self, i: u8) -> Mask
+    pub fn without(mut self, i: u8) -> Mask
         ensures { bits result ≡ excluded i (bits self) }
     {
-        let mut w = self.words;
-        let k = (i / 64) as usize;
-        let x = w[k];
-        w[k] = x ^ (x & (1u64 << (63 - (i % 64) as u32)));
-        Mask { words: w }
+        self.words[(i / 64) as usize] &= !(1 << (63 - i % 64));
+        self
     }
 }

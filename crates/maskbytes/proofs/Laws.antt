@@ -1,11 +1,11 @@
 -- Laws of a mask's groups of four bits and of its bytes.
 -- Assumes nothing.
 use Prim.Native.Nat.{ℕ, zero, suc, ◌+◌, ◌-◌, ◌*◌, ◌/◌, ◌%◌, ◌^◌, ◌<◌}
-use native.Mathlib.Nat.{mod-lt, mul_assoc, mul-one, add-zero, add-suc, add_assoc, pow-suc}
+use native.Mathlib.Nat.{mod-lt, mul_assoc, mul-one, add-zero, zero-add, add-suc, suc-add, add_assoc, div-one, pow-suc}
 use native.Mathlib.Omega.{arith}
 use mathlib.Core.Path.{◌≡◌, refl, sym, ap, ap₂, ◌∙◌}
 use mathlib.Core.Bool.{Bool, true, false, cond, ◌&&◌, ◌||◌, or-false}
-use mathlib.Core.List.{List}
+use mathlib.Core.List.{List, ◌∷◌, ◌++◌}
 use lib.ListN.{length, get_or, set}
 use lib.Dec.{eqb, leb}
 use lib.Pow.{pow_pos, shr-shr, split}
@@ -13,11 +13,12 @@ use lib.Bits.{bit_or}
 use borrow.Author.Tests.{leb-true, eqb-true, eqb-false, lt-ltb, le-leb, ne_eqb}
 use borrow.Author.Rules.{elem_Fits}
 use mir.Val.{Val}
-use mir.Syntax.{w8}
+use mir.Syntax.{w8, w64}
+use Rattle.std.specs.Int.{to_be_bytes}
 use denote.Laws.{Is}
 use denote.Array.{Array}
 use denote.Plain.{UInt}
-use Rattle.mask.specs.Bits.{Sized, Bits, digit, bit_at, group, number}
+use Rattle.mask.specs.Bits.{Sized, Bits, digit, bit_at, group, number, numbers}
 use Rattle.mask.proofs.Bit.{digit_or, digit_past, digit_join, digit_shifted, same_digits}
 use Rattle.mask.proofs.Laws.{bit_of, set_bits_lem, number_small, number_digit}
 
@@ -107,17 +108,18 @@ module _ (b : List ℕ) (small : (k : ℕ) → get_or b k 0 < 2 ^ 8) where
       own : (p at : ℕ) → at ≡ p * 8 → number 8 (bit_at 8 b) at ≡ get_or b p 0
       own p at e = ap (number 8 (bit_at 8 b)) e ∙ sym (own_bits 8 p b (small p))
 
-  pub eight_packed : (q hi lo : ℕ)
-      → hi ≡ ((get_or b (8 * q) 0 * 256 + get_or b (8 * q + 1) 0) * 256 + get_or b (8 * q + 2) 0) * 256 + get_or b (8 * q + 3) 0
-      → lo ≡ ((get_or b (8 * q + 4) 0 * 256 + get_or b (8 * q + 5) 0) * 256 + get_or b (8 * q + 6) 0) * 256 + get_or b (8 * q + 7) 0
-      → hi * 4294967296 + lo ≡ number 64 (bit_at 8 b) (q * 64)
-  eight_packed q hi lo eh el =
-      ap₂ (λ (x y : ℕ). x * 4294967296 + y)
-      (eh ∙ four_packed (8 * q) (8 * q + 1) (8 * q + 2) (8 * q + 3) refl refl refl ∙ ap (number 32 (bit_at 8 b)) (omega arith))
-      (el ∙ four_packed (8 * q + 4) (8 * q + 5) (8 * q + 6) (8 * q + 7) (omega arith) (omega arith) (omega arith) ∙ ap (number 32 (bit_at 8 b)) (omega arith))
+  pub eight_packed : (q x : ℕ)
+      → x ≡ (((get_or b (8 * q) 0 * 256 + get_or b (8 * q + 1) 0) * 256 + get_or b (8 * q + 2) 0) * 256 + get_or b (8 * q + 3) 0) * 4294967296
+      + (((get_or b (8 * q + 4) 0 * 256 + get_or b (8 * q + 5) 0) * 256 + get_or b (8 * q + 6) 0) * 256 + get_or b (8 * q + 7) 0)
+      → x ≡ number 64 (bit_at 8 b) (q * 64)
+  eight_packed q x e =
+      e
+      ∙ ap₂ (λ (x y : ℕ). x * 4294967296 + y)
+      (four_packed (8 * q) (8 * q + 1) (8 * q + 2) (8 * q + 3) refl refl refl ∙ ap (number 32 (bit_at 8 b)) (omega arith))
+      (four_packed (8 * q + 4) (8 * q + 5) (8 * q + 6) (8 * q + 7) (omega arith) (omega arith) (omega arith) ∙ ap (number 32 (bit_at 8 b)) (omega arith))
       ∙ sym (joined 32 32 (bit_at 8 b) (q * 64))
 
--- ---- a byte of a word
+-- ---- the bytes of a word
 
 -- n digits of a number from digit s on
 digit_field : (x s n k : ℕ) → k < n → digit (x / 2 ^ s % 2 ^ n) k ≡ digit x (s + k)
@@ -129,19 +131,51 @@ digit_field x s n k l =
     ∙ ap (λ (b : Bool). cond b (digit (x / 2 ^ s % 2 ^ n) k) (digit (x / 2 ^ s / 2 ^ n) (k - n))) (lt-ltb k n l))
     ∙ ap (λ (y : ℕ). eqb (y % 2) 1) (shr-shr x s k)
 
--- byte i of some words
-pub byte_at : (i : ℕ) (xs : List ℕ) → get_or xs (i / 8) 0 / 2 ^ (56 - 8 * (i % 8)) % 256 ≡ number 8 (bit_at 64 xs) (i * 8)
-byte_at i xs = packed 8 (x / 2 ^ s % 256) (bit_at 64 xs) (i * 8) (mod-lt (x / 2 ^ s) (pow_pos 8)) at
+-- byte r of word q
+word_byte : (q r : ℕ) (xs : List ℕ) → r < 8 → (k : ℕ) → k ≡ q * 64 + 8 * r
+    → get_or xs q 0 / 2 ^ (56 - 8 * r) % 256 ≡ number 8 (bit_at 64 xs) k
+word_byte q r xs h k e = packed 8 (x / 2 ^ s % 256) (bit_at 64 xs) k (mod-lt (x / 2 ^ s) (pow_pos 8)) at
   where
     x : ℕ
-    x = get_or xs (i / 8) 0
+    x = get_or xs q 0
 
     s : ℕ
-    s = 56 - 8 * (i % 8)
+    s = 56 - 8 * r
 
-    at : (j : ℕ) → j < 8 → digit (x / 2 ^ s % 256) (7 - j) ≡ bit_at 64 xs (i * 8 + j)
+    at : (j : ℕ) → j < 8 → digit (x / 2 ^ s % 256) (7 - j) ≡ bit_at 64 xs (k + j)
     at j l =
-        let place : s + (7 - j) ≡ 63 - (8 * (i % 8) + j) = omega arith in
-        let whole : i / 8 * 64 + (8 * (i % 8) + j) ≡ i * 8 + j = omega arith in
+        let place : s + (7 - j) ≡ 63 - (8 * r + j) = omega arith in
+        let whole : q * 64 + (8 * r + j) ≡ k + j = omega arith in
         digit_field x s 8 (7 - j) (omega arith) ∙ ap (digit x) place
-        ∙ sym (bit_of 64 (i / 8) (8 * (i % 8) + j) xs (omega arith)) ∙ ap (bit_at 64 xs) whole
+        ∙ sym (bit_of 64 q (8 * r + j) xs (omega arith)) ∙ ap (bit_at 64 xs) whole
+
+-- the bytes of word q
+pub word_bytes : (q : ℕ) (xs : List ℕ) → to_be_bytes w64 (get_or xs q 0) ≡ numbers 8 8 (bit_at 64 xs) (q * 64)
+unfolding numbers
+word_bytes q xs =
+    ap₂ ◌∷◌ (at 0 (q * 64) (omega arith) (omega arith))
+    (ap₂ ◌∷◌ (at 1 (q * 64 + 8) (omega arith) (omega arith))
+    (ap₂ ◌∷◌ (at 2 (q * 64 + 8 + 8) (omega arith) (omega arith))
+    (ap₂ ◌∷◌ (at 3 (q * 64 + 8 + 8 + 8) (omega arith) (omega arith))
+    (ap₂ ◌∷◌ (at 4 (q * 64 + 8 + 8 + 8 + 8) (omega arith) (omega arith))
+    (ap₂ ◌∷◌ (at 5 (q * 64 + 8 + 8 + 8 + 8 + 8) (omega arith) (omega arith))
+    (ap₂ ◌∷◌ (at 6 (q * 64 + 8 + 8 + 8 + 8 + 8 + 8) (omega arith) (omega arith))
+    (ap₂ ◌∷◌ (ap (λ (n : ℕ). n % 256) (sym (div-one (get_or xs q 0))) ∙ at 7 (q * 64 + 8 + 8 + 8 + 8 + 8 + 8 + 8) (omega arith) (omega arith)) refl)))))))
+  where
+    at : (r k : ℕ) → r < 8 → k ≡ q * 64 + 8 * r → get_or xs q 0 / 2 ^ (56 - 8 * r) % 256 ≡ number 8 (bit_at 64 xs) k
+    at r k h e = word_byte q r xs h k e
+
+-- numbers packed from bits, and those that follow
+numbers_add : (w a b : ℕ) (m : Bits) (k : ℕ) → numbers w (a + b) m k ≡ numbers w a m k ++ numbers w b m (k + a * w)
+unfolding numbers
+numbers_add w zero b m k = ap₂ (λ (n i : ℕ). numbers w n m i) (zero-add b) (omega arith)
+numbers_add w (suc a) b m k =
+    ap (λ (n : ℕ). numbers w n m k) (suc-add a b)
+    ∙ ap (λ (xs : List ℕ). number w m k ∷ xs) (numbers_add w a b m (k + w) ∙ ap (λ (i : ℕ). numbers w a m (k + w) ++ numbers w b m i) (omega arith))
+
+-- one word's bytes more
+pub words_more : (q : ℕ) (m : Bits) → numbers 8 (8 * (q + 1)) m 0 ≡ numbers 8 (8 * q) m 0 ++ numbers 8 8 m (q * 64)
+words_more q m =
+    let n : 8 * (q + 1) ≡ 8 * q + 8 = omega arith in
+    let i : 0 + 8 * q * 8 ≡ q * 64 = omega arith in
+    ap (λ (x : ℕ). numbers 8 x m 0) n ∙ numbers_add 8 (8 * q) 8 m 0 ∙ ap (λ (x : ℕ). numbers 8 (8 * q) m 0 ++ numbers 8 8 m x) i

@@ -35,12 +35,7 @@ pub fn minus(one: Mask, other: Mask) -> Mask
     let x = one.words;
     let y = other.words;
     Mask {
-        words: [
-            x[0] ^ (x[0] & y[0]),
-            x[1] ^ (x[1] & y[1]),
-            x[2] ^ (x[2] & y[2]),
-            x[3] ^ (x[3] & y[3]),
-        ],
+        words: [x[0] & !y[0], x[1] & !y[1], x[2] & !y[2], x[3] & !y[3]],
     }
 }
 
@@ -64,5 +59,5 @@ pub fn count(mask: Mask) -> u32
     ensures { result ≡ count_below 256 (bits mask) }
 {
     let x = mask.words;
-    u64::count_ones(x[0]) + u64::count_ones(x[1]) + u64::count_ones(x[2]) + u64::count_ones(x[3])
+    x[0].count_ones() + x[1].count_ones() + x[2].count_ones() + x[3].count_ones()
 }

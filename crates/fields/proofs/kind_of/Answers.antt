@@ -1,16 +1,17 @@
 -- `kind_of` meets its contract.
-use borrow.Author.Tests.{eq-eqb, ne_eqb}
+use Rattle.std.proofs.lemmas.Bool.Decides.{nat_tests}
+use Rattle.std.proofs.Common.{arith}
 use Rattle.fields.specs.Fields.{kind_of}
 use Rattle.fields.proofs.kind_of.Goals as goal
 
-pub returns-then-n-eq0 : goal.returns-then-n-eq0
+pub returns-in-0 : goal.returns-in-0
 unfolding kind_of
-returns-then-n-eq0 c = rw (eq-eqb c.args.n 0 c.if-n-eq0.true)
+returns-in-0 c = grind (arith, nat_tests)
 
-pub returns-then-n-eq1 : goal.returns-then-n-eq1
+pub returns-in-1 : goal.returns-in-1
 unfolding kind_of
-returns-then-n-eq1 c = rw (ne_eqb c.args.n 0 c.if-n-eq0.false, eq-eqb c.args.n 1 c.if-n-eq1.true)
+returns-in-1 c = grind (arith, nat_tests)
 
-pub returns : goal.returns
+pub returns-in_default : goal.returns-in_default
 unfolding kind_of
-returns c = rw (ne_eqb c.args.n 0 c.if-n-eq0.false, ne_eqb c.args.n 1 c.if-n-eq1.false)
+returns-in_default c = grind (arith, nat_tests)

@@ -1,31 +1,26 @@
--- `to_bytes` meets its contract. The invariant: each byte up to i is packed from the bits of its place.
-use Prim.Native.Nat.{ℕ, ◌*◌, ◌<◌}
-use native.Mathlib.Nat.{zero-add}
-use native.Mathlib.Omega.{arith}
-use mathlib.Core.Path.{◌≡◌, ap, sym, ◌∙◌}
-use lib.ListN.{get_or, set}
-use lib.Seq.{ext_get_or, get_or-set_same, get_or-set_other}
-use borrow.Author.Count.{below_more}
-use Rattle.mask.specs.Bits.{Sized, bits, number, numbers}
-use Rattle.mask.proofs.Laws.{numbers_words, numbers_at}
-use Rattle.maskbytes.proofs.Laws.{byte_at}
-use borrow.Author.Rules.{rules}
+-- `to_bytes` meets its contract.
+use Rattle.std.proofs.Common.{arith, refl, ◌≡◌, ◌+◌, ◌-◌, ◌*◌, length}
+use Rattle.std.proofs.lemmas.Grind.{common_steps}
+use Rattle.std.proofs.lemmas.Slice.{take-put_mid}
+use Rattle.mask.specs.Bits.{bits, numbers}
+use Rattle.maskbytes.proofs.Laws.{word_bytes, words_more}
 use Rattle.maskbytes.proofs.to_bytes.Goals as goal
 
-pub loop-i-preserved : goal.loop-i-preserved
-loop-i-preserved c =
-    let l = c.loop-i in
-    let kept : (q : ℕ) → q < l.i → get_or (set l.out l.i c.byte_of.result) q 0 ≡ get_or l.out q 0 = λ q h. get_or-set_other l.out l.i q c.byte_of.result 0 (omega arith) in (
-      search rules,
-      search rules,
-      below_more _ _
-          (λ q h. kept q h ∙ l.invariant.2 q h)
-          (get_or-set_same l.out l.i c.byte_of.result 0 (omega arith) ∙ c.byte_of.ensures ∙ byte_at l.i c.args.m.words),
-    )
+pub loop-q-init : goal.loop-q-init
+unfolding numbers
+loop-q-init c = record { long = refl; done = refl }
+
+pub loop-q-preserved : goal.loop-q-preserved
+loop-q-preserved c =
+    let q = c.loop-q.q in
+    let ys = c.copy_from_slice.new.self in
+    let written : ys ≡ numbers 8 8 (bits c.args.m) (q * 64) = cc (word_bytes q c.args.m.words) in
+    let long : length ys ≡ 8 = grind (arith, common_steps) in
+    let more = words_more q (bits c.args.m) in
+    let put = take-put_mid (8 * q) (8 * q + 8 - 8 * q) c.loop-q.out ys (8 * (q + 1)) (omega arith) (omega arith) in
+    record { long = grind (arith, common_steps); done = cc }
 
 pub returns : goal.returns
 returns c =
-    let m = c.args.m in
-    let packed : Sized 8 32 (numbers 8 32 (bits m) 0) = numbers_words 8 32 (bits m) 0 in
-    ext_get_or 0 c.loop-i.out (numbers 8 32 (bits m) 0) (omega (arith, packed.long))
-    (λ q l. c.loop-i.invariant.2 q (omega arith) ∙ ap (number 8 (bits m)) (sym (zero-add (q * 8))) ∙ sym (numbers_at 8 32 (bits m) 0 q (omega arith)))
+    let all : c.loop-q.q ≡ 4 = omega arith in
+    grind (arith, common_steps)

@@ -1,0 +1,8 @@
+-- `Mask::with` meets its contract.
+-- Assumes nothing.
+use Rattle.std.proofs.Common.{arith}
+use Rattle.mask.proofs.Laws.{mask_set}
+use Rattle.mask.proofs.Mask.with.Goals as goal
+
+pub returns : goal.returns
+returns c = mask_set c.args.self c.well_formed.0 c.args.i (omega arith)
