@@ -23,14 +23,10 @@ pub fn move_queue(words: &Words, drivers: &mut Drivers, adapter: Apid, domain: A
     );
     match m {
         Moved::Idle => {}
-        Moved::Released => {
-            drivers::put_driver(drivers, adapter, domain, Driver::Unbound);
-        }
-        Moved::BoundHost => {
-            drivers::put_driver(drivers, adapter, domain, Driver::Host);
-        }
+        Moved::Released => drivers::put_driver(drivers, adapter, domain, Driver::Unbound),
+        Moved::BoundHost => drivers::put_driver(drivers, adapter, domain, Driver::Host),
         Moved::BoundPassthrough => {
-            drivers::put_driver(drivers, adapter, domain, Driver::Passthrough);
+            drivers::put_driver(drivers, adapter, domain, Driver::Passthrough)
         }
     }
     m
@@ -39,21 +35,12 @@ pub fn move_queue(words: &Words, drivers: &mut Drivers, adapter: Apid, domain: A
 fn moved_by(driver: Driver, target: Driver) -> Moved
     ensures { result ≡ moved driver target }
 {
-    match driver {
-        Driver::Unbound => match target {
-            Driver::Unbound => Moved::Idle,
-            Driver::Host => Moved::BoundHost,
-            Driver::Passthrough => Moved::BoundPassthrough,
-        },
-        Driver::Host => match target {
-            Driver::Unbound => Moved::Released,
-            Driver::Host => Moved::Idle,
-            Driver::Passthrough => Moved::Released,
-        },
-        Driver::Passthrough => match target {
-            Driver::Unbound => Moved::Released,
-            Driver::Host => Moved::Released,
-            Driver::Passthrough => Moved::Idle,
-        },
+    if driver == target {
+        return Moved::Idle;
+    }
+    match (driver, target) {
+        (Driver::Unbound, Driver::Host) => Moved::BoundHost,
+        (Driver::Unbound, Driver::Passthrough) => Moved::BoundPassthrough,
+        _ => Moved::Released,
     }
 }

@@ -17,22 +17,12 @@ use targetrow::TargetRow;
 pub fn due_by(driver: Driver, target: Driver) -> u32
     ensures { result ≡ due driver target }
 {
-    match driver {
-        Driver::Unbound => match target {
-            Driver::Unbound => 0,
-            Driver::Host => 1,
-            Driver::Passthrough => 1,
-        },
-        Driver::Host => match target {
-            Driver::Unbound => 1,
-            Driver::Host => 0,
-            Driver::Passthrough => 2,
-        },
-        Driver::Passthrough => match target {
-            Driver::Unbound => 1,
-            Driver::Host => 2,
-            Driver::Passthrough => 0,
-        },
+    if driver == target {
+        0
+    } else if driver == Driver::Unbound || target == Driver::Unbound {
+        1
+    } else {
+        2
     }
 }
 
@@ -40,11 +30,9 @@ pub fn due_by(driver: Driver, target: Driver) -> u32
 pub fn remaining(words: &Words, drivers: &Drivers) -> u32
     ensures { Remains words.entry drivers.entry result }
 {
-    let mut sum: u32 = 0;
-    let mut adapter = 0usize;
-    while adapter < 256 {
-        sum += remaining_row(words, drivers, Apid(adapter as u8));
-        adapter += 1;
+    let mut sum = 0;
+    for adapter in 0..=255u8 {
+        sum += remaining_row(words, drivers, Apid(adapter));
     }
     sum
 }
@@ -54,12 +42,13 @@ fn remaining_row(words: &Words, drivers: &Drivers, adapter: Apid) -> u32
     ensures { result ≡ sum_from 256 (adapter.0 * 256) (due_at (state words.entry drivers.entry)) }
 {
     let row = TargetRow::of(words, adapter);
-    let mut sum: u32 = 0;
-    let mut domain = 0usize;
-    while domain < 256 {
-        let d = Apqi(domain as u8);
-        sum += due_by(drivers::driver(drivers, adapter, d), row.target(d));
-        domain += 1;
+    let mut sum = 0;
+    for n in 0..=255u8 {
+        let domain = Apqi(n);
+        sum += due_by(
+            drivers::driver(drivers, adapter, domain),
+            row.target(domain),
+        );
     }
     sum
 }

@@ -35,19 +35,6 @@ next_look j a b h = go (ltb j a) (eqb j a) refl refl
         let n : j ≡ a → ⊥ = eqb-false j a q in
         and-true (b && true) ∙ seen false (le-ltb j (a + 1) (omega (arith, ltb-false j a p)))
 
--- an adapter that is not there need not be dropped
-pub not_there : (m : Bits) (h : Bits) (a : ℕ) → (m a && h a) ≡ false → (j : ℕ) → m j ≡ (m j && not (eqb j a && h j))
-not_there m h a e j = go (eqb j a) refl
-  where
-    away : (x y : Bool) → (x && y) ≡ false → x ≡ (x && not y)
-    away true true q = q
-    away true false q = refl
-    away false y q = refl
-
-    go : (t : Bool) → eqb j a ≡ t → m j ≡ (m j && not (t && h j))
-    go true q = away (m j) (h j) (ap (λ (i : ℕ). m i && h i) (eqb-true j a q) ∙ e)
-    go false q = sym (and-true (m j))
-
 -- an adapter that is held back is dropped
 pub dropped : (m : Bits) (h : Bits) (a : ℕ) → h a ≡ true → (j : ℕ) → (not (eqb j a) && m j) ≡ (m j && not (eqb j a && h j))
 dropped m h a e j = go (eqb j a) refl

@@ -5,9 +5,8 @@
 
 ghost use Rattle.std.specs.Prelude.{◌≡◌, not, ◌&&◌};
 ghost use Rattle.mask.specs.Bits.{bits};
-ghost use Rattle.rules.specs.Queues.{passed};
 ghost use Rattle.layout.specs.Lent.{state, devices};
-ghost use Rattle.matrix.specs.Row.{held_back, held_at};
+ghost use Rattle.matrix.specs.Row.{missing, held_back, held_at};
 ghost use Rattle.matrix.specs.HasMasks.{HasMasks};
 
 use layout::{Drivers, Words};
@@ -22,8 +21,8 @@ pub fn masks_at(words: &Words, drivers: &Drivers, slot: usize, matrix: Matrix) -
     let domains = record::numbers(words, slot, Kind::Domain);
     match matrix {
         Matrix::Assigned => Masks {
-            adapters: adapters,
-            domains: domains,
+            adapters,
+            domains,
             controls: record::numbers(words, slot, Kind::Control),
         },
         Matrix::Guest => {
@@ -43,10 +42,8 @@ fn passed_adapters(drivers: &Drivers, adapters: Mask, domains: Mask) -> Mask
     ensures { bits result ≡ (λ j. bits adapters j && not (held_back drivers.now (bits domains) j)) }
 {
     let mut m = adapters;
-    let mut n = 0usize;
-    while n < 256 {
-        m = kept_adapter(drivers, Apid((n % 256) as u8), m, domains);
-        n += 1;
+    for adapter in 0..=255u8 {
+        m = kept_adapter(drivers, Apid(adapter), m, domains);
     }
     m
 }
@@ -55,37 +52,28 @@ fn passed_adapters(drivers: &Drivers, adapters: Mask, domains: Mask) -> Mask
 fn kept_adapter(drivers: &Drivers, adapter: Apid, mask: Mask, domains: Mask) -> Mask
     ensures { bits result ≡ (λ j. bits mask j && not (held_at adapter.0 drivers.now (bits domains) j)) }
 {
-    if mask.has_adapter(adapter) {
-        if !row_passed(drivers, adapter, domains) {
-            return mask.without(adapter.0);
-        }
+    if mask.has_adapter(adapter) && !row_passed(drivers, adapter, domains) {
+        mask.without(adapter.0)
+    } else {
+        mask
     }
-    mask
 }
 
 // Whether every queue of an adapter and these domains is bound to passthrough. Only the drivers of these domains are read.
 fn row_passed(drivers: &Drivers, adapter: Apid, domains: Mask) -> bool
     ensures { result ≡ not (held_back drivers.now (bits domains) adapter.0) }
 {
-    let mut n = 0usize;
-    while n < 256 {
-        let domain = Apqi((n % 256) as u8);
-        if domains.has_domain(domain) {
-            if !passed(drivers::driver(drivers, adapter, domain)) {
-                return false;
-            }
+    for domain in 0..=255u8 {
+        if missing(drivers, adapter, domains, Apqi(domain)) {
+            return false;
         }
-        n += 1;
     }
     true
 }
 
-fn passed(driver: Driver) -> bool
-    ensures { result ≡ passed driver }
+// Whether a domain is there, and its queue is not bound to passthrough.
+fn missing(drivers: &Drivers, adapter: Apid, domains: Mask, domain: Apqi) -> bool
+    ensures { result ≡ missing drivers.now (bits domains) adapter.0 domain.0 }
 {
-    match driver {
-        Driver::Unbound => false,
-        Driver::Host => false,
-        Driver::Passthrough => true,
-    }
+    domains.has_domain(domain) && drivers::driver(drivers, adapter, domain) != Driver::Passthrough
 }

@@ -32,11 +32,9 @@ impl Product {
     pub fn of(masks: Masks) -> Product
         ensures { result ≡ record { adapters = masks.adapters; domains = masks.domains } }
     {
-        let adapters = masks.adapters;
-        let domains = masks.domains;
         Product {
-            adapters: adapters,
-            domains: domains,
+            adapters: masks.adapters,
+            domains: masks.domains,
         }
     }
 
@@ -59,8 +57,9 @@ impl Product {
         ensures { Row (queues_of self) adapter.0 (bits result) }
     {
         if self.adapters.has_adapter(adapter) {
-            return self.domains;
+            self.domains
+        } else {
+            Mask::empty()
         }
-        Mask::empty()
     }
 }

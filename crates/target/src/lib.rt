@@ -17,15 +17,14 @@ pub fn target(words: &Words, adapter: Apid, domain: Apqi) -> Driver
     ensures { result ≡ target_of (host words.entry) (config words.entry) (apqn adapter domain) }
 {
     let configured = products::configured(words);
-    if !configured.has(adapter, domain) {
-        return Driver::Unbound;
-    }
     let reserved = products::reserved(words);
-    if reserved.has(adapter, domain) {
-        return Driver::Host;
+    if !configured.has(adapter, domain) {
+        Driver::Unbound
+    } else if reserved.has(adapter, domain) {
+        Driver::Host
+    } else if record::hardware_type(words, adapter) < 10 {
+        Driver::Unbound
+    } else {
+        Driver::Passthrough
     }
-    if record::hardware_type(words, adapter) < 10 {
-        return Driver::Unbound;
-    }
-    Driver::Passthrough
 }

@@ -26,16 +26,12 @@ impl TargetRow {
         let configured = products::configured(words).row(adapter);
         let reserved = products::reserved(words).row(adapter);
         let host = masks::and(configured, reserved);
-        if record::hardware_type(words, adapter) < 10 {
-            return TargetRow {
-                host: host,
-                passthrough: Mask::empty(),
-            };
-        }
-        TargetRow {
-            host: host,
-            passthrough: masks::minus(configured, reserved),
-        }
+        let passthrough = if record::hardware_type(words, adapter) < 10 {
+            Mask::empty()
+        } else {
+            masks::minus(configured, reserved)
+        };
+        TargetRow { host, passthrough }
     }
 
     // The target of the queue with a domain.
@@ -43,11 +39,11 @@ impl TargetRow {
         ensures { result ≡ row_target self domain.0 }
     {
         if self.host.has_domain(domain) {
-            return Driver::Host;
+            Driver::Host
+        } else if self.passthrough.has_domain(domain) {
+            Driver::Passthrough
+        } else {
+            Driver::Unbound
         }
-        if self.passthrough.has_domain(domain) {
-            return Driver::Passthrough;
-        }
-        Driver::Unbound
     }
 }

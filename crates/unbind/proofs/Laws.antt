@@ -22,10 +22,15 @@ pub by_test : (qs : List ℕ) (m : Mask) (a d : ℕ) (x : Bool) → d < 256 → 
 by_test qs m a d x h p = ap (λ (b : Bool). cond b (set qs (a * 256 + d) 0) qs) (p ∙ ap (bits m) (sym (queue_apqi a d h)))
 
 module _ (qs : List ℕ) (away : Bits) (a : ℕ) where
-  -- one queue more of an adapter
-  pub row_next : (n : ℕ) → unbind_one (unbind_row qs away a n) away (a * 256 + n) ≡ unbind_row qs away a (n + 1)
+  -- no queue of an adapter, and one more
+  pub row_nothing : unbind_row qs away a 0 ≡ qs
   unfolding unbind_row
-  row_next n = ap (unbind_row qs away a) (sym (add-one n))
+  row_nothing = refl
+
+  pub row_next : {rs ss : List ℕ} (n m : ℕ) → rs ≡ unbind_row qs away a n → ss ≡ unbind_one rs away (a * 256 + n) → m ≡ n + 1
+      → ss ≡ unbind_row qs away a m
+  unfolding unbind_row
+  row_next n m e f next = f ∙ ap (λ (rs : List ℕ). unbind_one rs away (a * 256 + n)) e ∙ ap (unbind_row qs away a) (sym (next ∙ add-one n))
 
   -- the queues of an adapter, after those of the adapters before it
   row_after : (n : ℕ) → unbind_row (unbind qs away (a * 256)) away a n ≡ unbind qs away (a * 256 + n)
@@ -36,8 +41,16 @@ module _ (qs : List ℕ) (away : Bits) (a : ℕ) where
       ap (λ (l : List ℕ). unbind_one l away (a * 256 + n)) (row_after n) ∙ ap (unbind qs away) next
 
   -- all of them
-  pub unbind_next : unbind_row (unbind qs away (a * 256)) away a 256 ≡ unbind qs away ((a + 1) * 256)
-  unbind_next = let next : a * 256 + 256 ≡ (a + 1) * 256 = omega arith in row_after 256 ∙ ap (unbind qs away) next
+  pub unbind_next : {rs ss : List ℕ} (m : ℕ) → rs ≡ unbind qs away (a * 256) → ss ≡ unbind_row rs away a 256 → m ≡ (a + 1) * 256
+      → ss ≡ unbind qs away m
+  unbind_next m e f next =
+      let last : a * 256 + 256 ≡ m = omega arith in
+      f ∙ ap (λ (rs : List ℕ). unbind_row rs away a 256) e ∙ row_after 256 ∙ ap (unbind qs away) last
+
+-- no queue
+pub unbind_nothing : (qs : List ℕ) (away : Bits) → unbind qs away 0 ≡ qs
+unfolding unbind
+unbind_nothing qs away = refl
 
 -- the queues of an adapter, by another test of them
 row_as : (qs : List ℕ) (f g : Bits) (a n : ℕ) → ((d : ℕ) → d < n → f (a * 256 + d) ≡ g (a * 256 + d)) → unbind_row qs f a n ≡ unbind_row qs g a n

@@ -17,10 +17,8 @@ use rules::Driver;
 pub fn unbind(drivers: &mut Drivers, was: Product, is: Product)
     ensures { drivers.new ≡ unbind drivers.old (gone was is) queues }
 {
-    let mut adapter = 0usize;
-    while adapter < 256 {
-        unbind_row(drivers, was, is, Apid(adapter as u8));
-        adapter += 1;
+    for adapter in 0..=255u8 {
+        unbind_row(drivers, was, is, Apid(adapter));
     }
 }
 
@@ -28,32 +26,27 @@ pub fn unbind(drivers: &mut Drivers, was: Product, is: Product)
 fn unbind_row(drivers: &mut Drivers, was: Product, is: Product, adapter: Apid)
     ensures { drivers.new ≡ unbind_row drivers.old (gone was is) adapter.0 256 }
 {
-    let before = was.row(adapter);
-    let after = is.row(adapter);
-    let gone = masks::minus(before, after);
-    if !masks::any(gone) {
-        return;
+    let gone = masks::minus(was.row(adapter), is.row(adapter));
+    if masks::any(gone) {
+        unbind_domains(drivers, adapter, gone);
     }
-    unbind_domains(drivers, adapter, gone);
 }
 
 // Unbinds the queues of an adapter and of some domains.
 fn unbind_domains(drivers: &mut Drivers, adapter: Apid, domains: Mask)
     ensures { drivers.new ≡ unbind_row drivers.old (with_domain domains) adapter.0 256 }
 {
-    let mut domain = 0usize;
-    while domain < 256 {
-        unbind_one(drivers, adapter, domains, Apqi(domain as u8));
-        domain += 1;
+    for domain in 0..=255u8 {
+        unbind_one(drivers, adapter, domains, Apqi(domain));
     }
 }
 
 // Unbinds one queue, if its domain is among them.
+#[tactic(auto, unfolding(layout::specs::Layout::byte_of))]
 fn unbind_one(drivers: &mut Drivers, adapter: Apid, domains: Mask, domain: Apqi)
     ensures { drivers.new ≡ unbind_one drivers.old (with_domain domains) (apqn adapter domain) }
 {
-    if !domains.has_domain(domain) {
-        return;
+    if domains.has_domain(domain) {
+        drivers::put_driver(drivers, adapter, domain, Driver::Unbound);
     }
-    drivers::put_driver(drivers, adapter, domain, Driver::Unbound);
 }

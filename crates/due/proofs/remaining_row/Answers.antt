@@ -1,8 +1,7 @@
--- `remaining_row` meets its contract. The invariant: the sum is that of the queues passed.
+-- `remaining_row` meets its contract: each queue adds what is due of it, at most two.
 use Prim.Native.Nat.{ℕ, ◌+◌, ◌*◌}
 use native.Mathlib.Omega.{arith}
 use mathlib.Core.Path.{◌≡◌, sym, ap, ap₂, ◌∙◌}
-use borrow.Author.Rules.{rules}
 use Rattle.rules.specs.Queues.{due, due_at, sum_from}
 use Rattle.rules.proofs.Sums.{sum_from_none, sum_from_more, sum_from_le}
 use Rattle.rules.proofs.Moves.{due_two}
@@ -12,39 +11,35 @@ use Rattle.due.proofs.Laws.{due_read}
 use Rattle.due.proofs.remaining_row.Goals.{After-due_by-sum}
 use Rattle.due.proofs.remaining_row.Goals as goal
 
-pub loop-domain-init : goal.loop-domain-init
-loop-domain-init c =
+-- the sum with what is due of the queue that the loop has come to
+next : (c : After-due_by-sum) →
     let a = c.args in
-    (search rules, sym (sum_from_none (a.adapter.0 * 256) (due_at (state_in a.words.now a.drivers.now))))
+    let l = c.loop-n in
+    l.sum + c.due_by-sum.result ≡ sum_from (l.n + 1) (a.adapter.0 * 256) (due_at (state_in a.words.now a.drivers.now))
+next c =
+    let a = c.args in
+    let l = c.loop-n in
+    let s = state_in a.words.now a.drivers.now in
+    let here : c.due_by-sum.result ≡ due_at s (a.adapter.0 * 256 + l.n) =
+    c.due_by-sum.ensures ∙ ap₂ due c.driver.ensures (c.target.ensures ∙ row_target_lem c.of-row.ensures l.n (omega arith))
+    ∙ sym (due_read a.words.now a.drivers.now (a.adapter.0 * 256 + l.n)) in
+    ap₂ ◌+◌ l.invariant here ∙ sym (sum_from_more l.n (a.adapter.0 * 256) (due_at s))
 
--- what is due of the queue that the loop has come to
-here : (c : After-due_by-sum) →
-    let a = c.args in
-    let d = c.loop-domain.domain in
-    c.due_by-sum.result ≡ due_at (state_in a.words.now a.drivers.now) (a.adapter.0 * 256 + d)
-here c =
-    let z = c.before in
-    let a = z.args in
-    let d = c.loop-domain.domain in
-    c.due_by-sum.ensures ∙ ap₂ due c.driver.ensures (c.target.ensures ∙ row_target_lem z.of-row.ensures d (omega arith))
-    ∙ sym (due_read a.words.now a.drivers.now (a.adapter.0 * 256 + d))
+pub loop-n-init : goal.loop-n-init
+loop-n-init c = let a = c.args in sym (sum_from_none (a.adapter.0 * 256) (due_at (state_in a.words.now a.drivers.now)))
 
 pub overflow_add-sum : goal.overflow_add-sum
 overflow_add-sum c =
     let a = c.args in
-    let l = c.loop-domain in
     let s = state_in a.words.now a.drivers.now in
-    omega (arith, here (goal.at.overflow_add-sum c).After-due_by-sum, due_two s (a.adapter.0 * 256 + l.domain), sum_from_le l.domain (a.adapter.0 * 256) 2 (due_at s) (due_two s))
+    omega (arith, next (goal.at.overflow_add-sum c).After-due_by-sum, sum_from_le (c.loop-n.n + 1) (a.adapter.0 * 256) 2 (due_at s) (due_two s))
 
-pub loop-domain-preserved : goal.loop-domain-preserved
-loop-domain-preserved c =
-    let a = c.args in
-    let l = c.loop-domain in
-    let s = state_in a.words.now a.drivers.now in
-    (search rules, ap₂ ◌+◌ l.invariant.1 (here (goal.at.loop-domain-preserved c).After-due_by-sum) ∙ sym (sum_from_more l.domain (a.adapter.0 * 256) (due_at s)))
+pub loop-n-preserved : goal.loop-n-preserved
+loop-n-preserved c = next (goal.at.loop-n-preserved c).After-due_by-sum
 
-pub returns : goal.returns
-returns c =
+pub returns-2 : goal.returns-2
+returns-2 c =
     let a = c.args in
-    let e : c.loop-domain.domain ≡ 256 = omega arith in
-    c.loop-domain.invariant.1 ∙ ap (λ (i : ℕ). sum_from i (a.adapter.0 * 256) (due_at (state_in a.words.now a.drivers.now))) e
+    let last : c.loop-n.n + 1 ≡ 256 = omega arith in
+    next (goal.at.returns-2 c).After-due_by-sum
+    ∙ ap (λ (i : ℕ). sum_from i (a.adapter.0 * 256) (due_at (state_in a.words.now a.drivers.now))) last

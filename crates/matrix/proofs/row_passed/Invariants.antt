@@ -1,13 +1,8 @@
--- `row_passed` meets its contract. The loop's invariant: no queue of a domain below n holds the adapter back.
-use Prim.Native.Nat.{ℕ, ◌-◌, ◌≤◌, ◌<◌}
-use mathlib.Core.Path.{◌≡◌}
-use mathlib.Core.Bool.{false}
+-- The loop's invariant: no queue of a domain that it passed holds the adapter back.
+use Rattle.std.proofs.Common.{ℕ, ◌<◌, ◌≡◌, false}
 use Rattle.mask.specs.Bits.{bits}
 use Rattle.matrix.specs.Row.{missing}
 use Rattle.matrix.proofs.row_passed.Given as goal
 
-abbrev pub invariant-loop-n : goal.invariant-loop-n
-invariant-loop-n l = (l.n ≤ 256) × ((k : ℕ) → k < l.n → missing l.drivers (bits l.domains) l.adapter.0 k ≡ false)
-
-abbrev pub decreases-loop-n : goal.decreases-loop-n
-decreases-loop-n l = 256 - l.n
+abbrev pub invariant-loop-domain : goal.invariant-loop-domain
+invariant-loop-domain l = (k : ℕ) → k < l.domain → missing l.drivers (bits l.domains) l.adapter.0 k ≡ false

@@ -11,16 +11,14 @@ use Rattle.unbind.proofs.unbind_row.Goals.{After-minus-gone}
 goes : (c : After-minus-gone) → let a = c.args in Row (gone a.was a.is) a.adapter.0 (bits c.minus-gone.result)
 goes c =
     let a = c.args in
-    row_gone a.was a.is a.adapter.0 c.row-before.ensures c.row-after.ensures c.minus-gone.ensures
+    row_gone a.was a.is a.adapter.0 c.row.ensures c.row-2.ensures c.minus-gone.ensures
 
-pub returns-then-not-any : goal.returns-then-not-any
-returns-then-not-any c =
-    let got = c in
-    let a = got.args in
-    row_none a.drivers.now (gone a.was a.is) a.adapter.0 got.minus-gone.result (goes (goal.at.returns-then-not-any c).After-minus-gone) (sym c.any.ensures ∙ c.if-not-any.true)
+pub returns-else-any : goal.returns-else-any
+returns-else-any c =
+    let a = c.args in
+    row_none a.drivers.now (gone a.was a.is) a.adapter.0 c.minus-gone.result (goes (goal.at.returns-else-any c).After-minus-gone) (sym c.any.ensures ∙ c.if-any.false)
 
-pub returns : goal.returns
-returns c =
-    let got = c in
-    let a = got.args in
-    c.unbind_domains.ensures ∙ row_some a.drivers.now (gone a.was a.is) a.adapter.0 got.minus-gone.result (goes (goal.at.returns c).After-minus-gone)
+pub returns-then-any : goal.returns-then-any
+returns-then-any c =
+    let a = c.args in
+    c.unbind_domains.ensures ∙ row_some a.drivers.now (gone a.was a.is) a.adapter.0 c.minus-gone.result (goes (goal.at.returns-then-any c).After-minus-gone)

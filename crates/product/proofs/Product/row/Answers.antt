@@ -5,5 +5,5 @@ use Rattle.product.proofs.Product.row.Goals as goal
 pub returns-then-has_adapter : goal.returns-then-has_adapter
 returns-then-has_adapter c = search (row_of)
 
-pub returns : goal.returns
-returns c = search (row_none)
+pub returns-else-has_adapter : goal.returns-else-has_adapter
+returns-else-has_adapter c = search (row_none)

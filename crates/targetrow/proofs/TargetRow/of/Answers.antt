@@ -28,12 +28,12 @@ made c t m e f =
 
 pub returns-then-hardware_type-lt10 : goal.returns-then-hardware_type-lt10
 returns-then-hardware_type-lt10 c =
-    let type = c in
-    let a = type.args in
-    made (goal.at.returns-then-hardware_type-lt10 c).After-and-host false _ (sym (lt-leb 10 ((config a.words).types a.adapter.0) (omega (arith, type.hardware_type.ensures)))) c.empty.ensures
+    let a = c.args in
+    made (goal.at.returns-then-hardware_type-lt10 c).After-and-host false _
+    (sym (lt-leb 10 ((config a.words).types a.adapter.0) (omega (arith, c.hardware_type.ensures)))) c.empty-passthrough.ensures
 
-pub returns : goal.returns
-returns c =
-    let type = c in
-    let a = type.args in
-    made (goal.at.returns c).After-and-host true _ (sym (le-leb 10 ((config a.words).types a.adapter.0) (omega (arith, type.hardware_type.ensures)))) c.minus.ensures
+pub returns-else-hardware_type-lt10 : goal.returns-else-hardware_type-lt10
+returns-else-hardware_type-lt10 c =
+    let a = c.args in
+    made (goal.at.returns-else-hardware_type-lt10 c).After-and-host true _
+    (sym (le-leb 10 ((config a.words).types a.adapter.0) (omega (arith, c.hardware_type.ensures)))) c.minus-passthrough.ensures
