@@ -1,5 +1,6 @@
 -- A change of a device that is open as wanted.
 -- Assumes nothing.
+use Rattle.std.proofs.Common.{Ok, Err}
 use Prim.Native.Nat.{ℕ, ◌≤◌, ◌<◌}
 use mathlib.Core.Bool.{Bool, beq, true, false, cond, not}
 use mathlib.Core.List.{List}
@@ -8,7 +9,6 @@ use lib.ListN.{length}
 use Rattle.errno.specs.Outcome.{granted, refused}
 use Rattle.errno.specs.declared.Errno.{Errno}
 use Rattle.errno.specs.declared.Errno.TheVariants.{Enoent}
-use Rattle.rules.specs.declared.Answer.TheVariants.{Done, Refused}
 use Rattle.rules.specs.declared.Id.{Id}
 use Rattle.rules.specs.State.{State, slots}
 use Rattle.rules.specs.Commands.{slot_of, with_device}
@@ -27,7 +27,7 @@ as_test false false a b = refl
 
 -- a change of the device with an id, which is looked for at slot p
 module _ (i : Id) (ws : List ℕ) (w : Bool) (e : Errno) (removes : Bool) (p : ℕ) (at : p ≡ slot_of i (device_in ws)) where
-  pub change_unknown : slots ≤ p → CarriedWords (changing i w e removes) (changed i w removes) ws ws (Refused Enoent)
+  pub change_unknown : slots ≤ p → CarriedWords (changing i w e removes) (changed i w removes) ws ws (Err Enoent)
   unfolding changing
   change_unknown h = refused_carried (changing i w e removes) (changed i w removes) ws Enoent (λ qs. unknown i ws qs p at _ h)
 
@@ -43,7 +43,7 @@ module _ (i : Id) (ws : List ℕ) (w : Bool) (e : Errno) (removes : Bool) (p : �
         (λ k. as_wanted w (device_in ws k).is_open (granted (with_device k (next w removes (device_in ws k)) (state_in ws qs))) (refused e)) there
         ∙ as_test w (device_in ws p).is_open _ _ ∙ ap (λ (b : Bool). cond b (granted (after qs)) (refused e)) (sym is)
 
-    pub change_refused : false ≡ beq (device_in ws p).is_open w → CarriedWords (changing i w e removes) (changed i w removes) ws ws (Refused e)
+    pub change_refused : false ≡ beq (device_in ws p).is_open w → CarriedWords (changing i w e removes) (changed i w removes) ws ws (Err e)
     change_refused is = refused_carried (changing i w e removes) (changed i w removes) ws e (by_open false is)
 
     -- the words of the device at p changed
@@ -51,7 +51,7 @@ module _ (i : Id) (ws : List ℕ) (w : Bool) (e : Errno) (removes : Bool) (p : �
     put b = cond b (put_device ws p false no_id) (put_open ws p (not w))
 
     pub change_done : length ws ≡ word_count → true ≡ beq (device_in ws p).is_open w → {vs : List ℕ} (b : Bool) → b ≡ removes → vs ≡ put b
-        → CarriedWords (changing i w e removes) (changed i w removes) ws vs Done
+        → CarriedWords (changing i w e removes) (changed i w removes) ws vs (Ok tt)
     unfolding changed
     change_done long is b r l =
         let same = ap (λ (k : ℕ). cond removes (put_device ws k false no_id) (put_open ws k (not w))) at in
