@@ -7,8 +7,11 @@ use mathlib.Core.Bool.{Bool, true, false, cond}
 use mathlib.Core.Path.{◌≡◌, refl, sym, ap, subst, ◌∙◌}
 use mathlib.Core.Logic.{⊎_elim}
 use native.Mathlib.Nat.{eq-or-lt_of_le}
+use Rattle.std.proofs.Common.{Some, None}
+use borrow.Author.Tests.{lt-ltb, le-ltb}
 use Rattle.mask.specs.Bits.{Bits}
-use Rattle.rules.specs.Commands.{first_from}
+use Rattle.rules.specs.State.{slots}
+use Rattle.rules.specs.Commands.{first_from, found}
 
 -- the test holds of the first, or the first of the rest is the answer
 pub first_here : (n k : ℕ) (p : Bits) → p k ≡ true → first_from (suc n) k p ≡ k
@@ -58,3 +61,10 @@ first_before (suc n) k p j l h = go (p k) refl h (first_before n (suc k) p j)
         → (suc k ≤ j → j < first_from n (suc k) p → p j ≡ false) → p j ≡ false
     go true e h next = absurd (omega arith)
     go false e h next = ⊎_elim (λ q. subst (λ (m : ℕ). p m ≡ false) q e) (λ q. next q h) (eq-or-lt_of_le l)
+
+-- a search that ended at a slot found it, and one that ended past the last found none
+pub found_at : {p q : ℕ} → p < slots → q ≡ p → Some p ≡ found q
+found_at {p} {q} h e = sym (ap found e ∙ ap (λ (t : Bool). cond t (Some p) None) (lt-ltb p slots h))
+
+pub found_none : {p q : ℕ} → q ≡ p → slots ≤ p → None ≡ found q
+found_none {p} {q} e h = sym (ap found e ∙ ap (λ (t : Bool). cond t (Some p) None) (le-ltb p slots h))
