@@ -60,11 +60,11 @@ pub refused_as : (o : Outcome State) (e : Errno) → Err e ≡ answer_of o → o
 refused_as (granted s) e h = let z : ◌≡◌ {A = ℕ} 0 1 = cc in absurd (omega arith)
 refused_as (refused f) e h = cc
 
-pub done_as : (m : Bits) (p : ℕ) (s t : State) → (Ok tt) ≡ answer_of (adding m p s t) → adding m p s t ≡ granted t
+pub done_as : (m : Bits) (p : ℕ) (s t : State) → Ok tt ≡ answer_of (adding m p s t) → adding m p s t ≡ granted t
 unfolding adding
 done_as m p s t h = go (some_below queues (both m (reserved s.host))) (some_below queues (both m (assigned_elsewhere p s.device))) h
   where
-    go : (a b : Bool) → (Ok tt) ≡ answer_of (cond a (refused Eaddrnotavail) (cond b (refused Eaddrinuse) (granted t)))
+    go : (a b : Bool) → Ok tt ≡ answer_of (cond a (refused Eaddrnotavail) (cond b (refused Eaddrinuse) (granted t)))
         → cond a (refused Eaddrnotavail) (cond b (refused Eaddrinuse) (granted t)) ≡ granted t
     go true b h = let z : ◌≡◌ {A = ℕ} 0 1 = cc in absurd (omega arith)
     go false true h = let z : ◌≡◌ {A = ℕ} 0 1 = cc in absurd (omega arith)

@@ -11,7 +11,7 @@ use Rattle.layout.specs.Lent.{Lent}
 
 -- the answer that an outcome comes to
 abbrev pub answer_of : Outcome State → Answer
-answer_of (granted s) = (Ok tt)
+answer_of (granted s) = Ok tt
 answer_of (refused e) = Err e
 
 -- whether some queues can be added to the device at slot p: EADDRNOTAVAIL, then EADDRINUSE, whatever drivers and next state

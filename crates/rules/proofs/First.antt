@@ -4,11 +4,12 @@ use Prim.Native.Nat.{ℕ, zero, suc, ◌+◌, ◌-◌, ◌≤◌, ◌<◌}
 use native.Mathlib.Numerals.{add-one}
 use native.Mathlib.Omega.{arith}
 use mathlib.Core.Bool.{Bool, true, false, cond}
+use lib.Dec.{ltb}
 use mathlib.Core.Path.{◌≡◌, refl, sym, ap, subst, ◌∙◌}
 use mathlib.Core.Logic.{⊎_elim}
 use native.Mathlib.Nat.{eq-or-lt_of_le}
 use Rattle.std.proofs.Common.{Some, None}
-use borrow.Author.Tests.{lt-ltb, le-ltb}
+use borrow.Author.Tests.{ltb-true, ltb-false, lt-ltb, le-ltb}
 use Rattle.mask.specs.Bits.{Bits}
 use Rattle.rules.specs.State.{slots}
 use Rattle.rules.specs.Commands.{first_from, found}
@@ -68,3 +69,18 @@ found_at {p} {q} h e = sym (ap found e ∙ ap (λ (t : Bool). cond t (Some p) No
 
 pub found_none : {p q : ℕ} → q ≡ p → slots ≤ p → None ≡ found q
 found_none {p} {q} e h = sym (ap found e ∙ ap (λ (t : Bool). cond t (Some p) None) (le-ltb p slots h))
+
+-- what is known of a slot that was found, and where none was
+pub found_some : {p q : ℕ} → Some p ≡ found q → (p < slots) × (p ≡ q)
+found_some {p} {q} h = go (ltb q slots) refl h
+  where
+    go : (b : Bool) → ltb q slots ≡ b → Some p ≡ cond b (Some q) None → (p < slots) × (p ≡ q)
+    go true e h = let same : p ≡ q = cc in (subst (λ (k : ℕ). k < slots) (sym same) (ltb-true q slots e), same)
+    go false e h = cc
+
+pub found_nothing : {q : ℕ} → None ≡ found q → slots ≤ q
+found_nothing {q} h = go (ltb q slots) refl h
+  where
+    go : (b : Bool) → ltb q slots ≡ b → None ≡ cond b (Some q) None → slots ≤ q
+    go true e h = absurd cc
+    go false e h = ltb-false q slots e
