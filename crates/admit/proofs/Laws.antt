@@ -1,5 +1,6 @@
 -- The tests of the rules at a number.
 -- Assumes nothing.
+use Rattle.std.proofs.Common.{Ok, Err}
 use Prim.Native.Nat.{ℕ, ◌≤◌, ◌%◌}
 use native.Mathlib.Omega.{arith}
 use mathlib.Core.Bool.{Bool, true, false, cond, or-false}
@@ -11,7 +12,6 @@ use Rattle.errno.specs.Outcome.{Outcome, granted, refused}
 use Rattle.errno.specs.declared.Errno.{Errno}
 use Rattle.errno.specs.declared.Errno.TheVariants.{Eaddrinuse, Eaddrnotavail}
 use Rattle.mask.specs.Bits.{Bits, some_below, both, included, no_bits}
-use Rattle.rules.specs.declared.Answer.TheVariants.{Done, Refused}
 use Rattle.rules.specs.declared.Kind.{Kind}
 use Rattle.rules.specs.declared.Kind.TheVariants.{Adapter, Domain, Control}
 use Rattle.rules.specs.State.{State, queues}
@@ -43,28 +43,28 @@ found p q = sym p ∙ q
 -- what a test of the queues to be added finds
 pub by_tests : (m : Bits) (p : ℕ) (ws qs : List ℕ) (t : State) (x y : Bool) → x ≡ some_below queues (both m (reserved (host_in ws)))
     → y ≡ some_below queues (both m (assigned_elsewhere p (device_in ws)))
-    → cond x (Refused Eaddrnotavail) (cond y (Refused Eaddrinuse) Done) ≡ answer_of (adding m p (state_in ws qs) t)
+    → cond x (Err Eaddrnotavail) (cond y (Err Eaddrinuse) (Ok tt)) ≡ answer_of (adding m p (state_in ws qs) t)
 unfolding adding state_in
 by_tests m p ws qs t x y e f =
-    ap₂ (λ (a b : Bool). cond a (Refused Eaddrnotavail) (cond b (Refused Eaddrinuse) Done)) e f
+    ap₂ (λ (a b : Bool). cond a (Err Eaddrnotavail) (cond b (Err Eaddrinuse) (Ok tt))) e f
     ∙ go (some_below queues (both m (reserved (host_in ws)))) (some_below queues (both m (assigned_elsewhere p (device_in ws))))
   where
-    go : (a b : Bool) → cond a (Refused Eaddrnotavail) (cond b (Refused Eaddrinuse) Done)
+    go : (a b : Bool) → cond a (Err Eaddrnotavail) (cond b (Err Eaddrinuse) (Ok tt))
         ≡ answer_of (cond a (refused Eaddrnotavail) (cond b (refused Eaddrinuse) (granted t)))
     go true b = refl
     go false true = refl
     go false false = refl
 
 -- an answer that is told tells the outcome
-pub refused_as : (o : Outcome State) (e : Errno) → Refused e ≡ answer_of o → o ≡ refused e
+pub refused_as : (o : Outcome State) (e : Errno) → Err e ≡ answer_of o → o ≡ refused e
 refused_as (granted s) e h = let z : ◌≡◌ {A = ℕ} 0 1 = cc in absurd (omega arith)
 refused_as (refused f) e h = cc
 
-pub done_as : (m : Bits) (p : ℕ) (s t : State) → Done ≡ answer_of (adding m p s t) → adding m p s t ≡ granted t
+pub done_as : (m : Bits) (p : ℕ) (s t : State) → Ok tt ≡ answer_of (adding m p s t) → adding m p s t ≡ granted t
 unfolding adding
 done_as m p s t h = go (some_below queues (both m (reserved s.host))) (some_below queues (both m (assigned_elsewhere p s.device))) h
   where
-    go : (a b : Bool) → Done ≡ answer_of (cond a (refused Eaddrnotavail) (cond b (refused Eaddrinuse) (granted t)))
+    go : (a b : Bool) → Ok tt ≡ answer_of (cond a (refused Eaddrnotavail) (cond b (refused Eaddrinuse) (granted t)))
         → cond a (refused Eaddrnotavail) (cond b (refused Eaddrinuse) (granted t)) ≡ granted t
     go true b h = let z : ◌≡◌ {A = ℕ} 0 1 = cc in absurd (omega arith)
     go false true h = let z : ◌≡◌ {A = ℕ} 0 1 = cc in absurd (omega arith)

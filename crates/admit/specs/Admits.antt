@@ -1,20 +1,18 @@
 -- Whether queues can be added to a device.
 -- The rules: RULES.md, "Commands".
 -- Assumes nothing.
-use Rattle.std.specs.Prelude.{ℕ, List, ◌≡◌}
+use Rattle.std.specs.Prelude.{Ok, Err, ℕ, List, ◌≡◌}
 use Rattle.errno.specs.Outcome.{Outcome, granted, refused}
 use Rattle.mask.specs.Bits.{Bits}
-use Rattle.rules.specs.declared.Answer.{Answer}
-use Rattle.rules.specs.declared.Answer.TheVariants.{Done, Refused}
 use Rattle.rules.specs.State.{State}
-use Rattle.rules.specs.Commands.{adding}
+use Rattle.rules.specs.Commands.{Answer, adding}
 use Rattle.layout.specs.Layout.{state_in}
 use Rattle.layout.specs.Lent.{Lent}
 
 -- the answer that an outcome comes to
 abbrev pub answer_of : Outcome State → Answer
-answer_of (granted s) = Done
-answer_of (refused e) = Refused e
+answer_of (granted s) = Ok tt
+answer_of (refused e) = Err e
 
 -- whether some queues can be added to the device at slot p: EADDRNOTAVAIL, then EADDRINUSE, whatever drivers and next state
 abbrev pub Admits : Bits → ℕ → Lent → Answer → Type 0

@@ -22,7 +22,7 @@ use rules::{Answer, Kind};
 pub fn in_range(words: &Words, kind: Kind, number: u64) -> bool
     ensures { result ≡ leb number (limit_of kind (limits words.entry)) }
 {
-    number <= (limit(words, kind) as u64)
+    number <= u64::from(limit(words, kind))
 }
 
 // The limit of a kind of number.
@@ -41,12 +41,12 @@ pub fn admitted(words: &Words, slot: usize, wanted: Product) -> Answer
     ensures { Admits (queues_of wanted) slot words.entry result }
 {
     if reserved(words, wanted) {
-        return Answer::Refused(Errno::Eaddrnotavail);
+        return Err(Errno::Eaddrnotavail);
     }
     if lookup::taken(words, slot, wanted) {
-        return Answer::Refused(Errno::Eaddrinuse);
+        return Err(Errno::Eaddrinuse);
     }
-    Answer::Done
+    Ok(())
 }
 
 // Whether a queue that is wanted is reserved for the host.
@@ -60,8 +60,7 @@ fn reserved(words: &Words, wanted: Product) -> bool
 pub fn paired(words: &Words, kind: Kind, slot: usize, number: u8) -> Product
     ensures { queues_of result ≡ paired kind number (devices words.entry slot) }
 {
-    let none = Mask::empty();
-    let one = none.with(number);
+    let one = Mask::empty().with(number);
     match kind {
         Kind::Adapter => Product {
             adapters: one,

@@ -1,5 +1,6 @@
 -- What is asked by a text is what is asked by its number, and the other way round.
 -- Assumes nothing.
+use Rattle.std.proofs.Common.{Ok, Err}
 use Prim.Native.Nat.{ℕ, ◌≤◌, ◌<◌, min}
 use native.Mathlib.Omega.{arith}
 use mathlib.Core.Bool.{Bool, true, false, cond}
@@ -12,12 +13,11 @@ use Rattle.errno.specs.declared.Errno.{Errno}
 use Rattle.errno.specs.declared.Errno.TheVariants.{Enoent, Enodev}
 use Rattle.number.specs.Text.{number_text}
 use Rattle.numeral.proofs.Laws.{says}
-use Rattle.rules.specs.declared.Answer.{Answer}
 use Rattle.rules.specs.declared.Answer.TheVariants.{Refused}
 use Rattle.rules.specs.declared.Id.{Id}
 use Rattle.rules.specs.declared.Kind.{Kind}
 use Rattle.rules.specs.State.{State, slots}
-use Rattle.rules.specs.Commands.{errno_of, state_after, slot_of, limit_of, on_device, reading, assign_at, unassign_at, assign, unassign, assign_number, unassign_number}
+use Rattle.rules.specs.Commands.{Answer, errno_of, state_after, slot_of, limit_of, on_device, reading, assign_at, unassign_at, assign, unassign, assign_number, unassign_number}
 use Rattle.rules.proofs.Refusals.{refused_exactly}
 use Rattle.layout.specs.Carried.{memory, memory_after, CarriedWords}
 use Rattle.layout.specs.Layout.{limits_in, device_in, state_in}
@@ -45,11 +45,11 @@ module _ (k : Kind) (i : Id) (text ws : List ℕ) where
 
   -- a text that says none
   module _ (e : Errno) (t : number_text text ≡ refused e) where
-    pub not_assigned : Assigning k i text ws ws (Refused e)
+    pub not_assigned : Assigning k i text ws ws (Err e)
     unfolding assign reading
     not_assigned = whole (refused_carried (assign k i text) (assigned k i text) ws e (λ qs. rw t))
 
-    pub not_unassigned : CarriedWords (unassign k i text) (unassigned k i text) ws ws (Refused e)
+    pub not_unassigned : CarriedWords (unassign k i text) (unassigned k i text) ws ws (Err e)
     unfolding unassign reading
     not_unassigned = refused_carried (unassign k i text) (unassigned k i text) ws e (λ qs. rw t)
 

@@ -7,8 +7,7 @@ use Rattle.number.specs.Text.{number_text}
 use Rattle.numeral.specs.Numeral.{numeral}
 use Rattle.rules.specs.declared.Id.{Id}
 use Rattle.rules.specs.declared.Kind.{Kind}
-use Rattle.rules.specs.declared.Answer.{Answer}
-use Rattle.rules.specs.Commands.{slot_of, assign, unassign}
+use Rattle.rules.specs.Commands.{Answer, slot_of, assign, unassign}
 use Rattle.rules.specs.Refusals.{RefusedExactly}
 use Rattle.layout.specs.Layout.{limits_in, host_in, device_in}
 use Rattle.layout.specs.Lent.{Lent, LentMut}

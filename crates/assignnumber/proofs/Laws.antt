@@ -1,5 +1,6 @@
 -- What assigning writes and reads, the rule at a slot, and where a number goes.
 -- Assumes nothing.
+use Rattle.std.proofs.Common.{Ok, Err}
 use Prim.Native.Nat.{ℕ, zero, suc, ◌+◌, ◌^◌, ◌<◌}
 use native.Mathlib.Omega.{arith}
 use mathlib.Core.Bool.{Bool, true, false, cond}
@@ -13,12 +14,11 @@ use Rattle.errno.specs.declared.Errno.{Errno}
 use Rattle.errno.specs.declared.Errno.TheVariants.{Enoent, Enodev}
 use Rattle.mask.specs.declared.Mask.{Mask}
 use Rattle.mask.specs.Bits.{Sized, Bits, bits, included}
-use Rattle.rules.specs.declared.Answer.{Answer}
 use Rattle.rules.specs.declared.Answer.TheVariants.{Refused}
 use Rattle.rules.specs.declared.Id.{Id}
 use Rattle.rules.specs.declared.Kind.{Kind}
 use Rattle.rules.specs.State.{State, slots}
-use Rattle.rules.specs.Commands.{numbers_of, with_numbers, with_device, on_device, slot_of, limit_of, assign_at, adding, paired, assign_number}
+use Rattle.rules.specs.Commands.{Answer, numbers_of, with_numbers, with_device, on_device, slot_of, limit_of, assign_at, adding, paired, assign_number}
 use Rattle.rules.specs.Refusals.{NumberRefusedExactly}
 use Rattle.rules.proofs.Refusals.{absorbed, number_refused_exactly}
 use Rattle.layout.specs.Carried.{CarriedWords}
@@ -140,7 +140,7 @@ module _ (k : Kind) (i : Id) (n : ℕ) (ws : List ℕ) where
       (by_located next (At p m) e) (ap₂ (λ (j o : ℕ). change j o ws) (sym (goes e).slot) (sym (goes e).number)) c
 
   pub not_located : (next : ℕ → ℕ → State → Outcome State) (effect : List ℕ → List ℕ) {e : Errno}
-      → Nowhere e ≡ located_in k i n ws → CarriedWords (asked next) effect ws ws (Refused e)
+      → Nowhere e ≡ located_in k i n ws → CarriedWords (asked next) effect ws ws (Err e)
   not_located next effect {e} h = refused_carried (asked next) effect ws e (by_located next (Nowhere e) h)
 
   -- where it goes, by what the two tests find

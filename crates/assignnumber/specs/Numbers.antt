@@ -6,9 +6,8 @@ use Rattle.errno.specs.declared.Errno.TheVariants.{Enoent, Enodev}
 use Rattle.mask.specs.Bits.{Bits, included, excluded}
 use Rattle.rules.specs.declared.Id.{Id}
 use Rattle.rules.specs.declared.Kind.{Kind}
-use Rattle.rules.specs.declared.Answer.{Answer}
 use Rattle.rules.specs.State.{slots}
-use Rattle.rules.specs.Commands.{slot_of, limit_of, numbers_of, assign_number, unassign_number}
+use Rattle.rules.specs.Commands.{Answer, slot_of, limit_of, numbers_of, assign_number, unassign_number}
 use Rattle.rules.specs.Refusals.{NumberRefusedExactly}
 use Rattle.layout.specs.Layout.{limits_in, host_in, device_in, put_numbers, words_of}
 use Rattle.layout.specs.Lent.{Lent, LentMut}

@@ -9,10 +9,9 @@ use lib.Dec.{leb}
 use Rattle.errno.specs.declared.Errno.TheVariants.{Einval}
 use Rattle.errno.specs.Errno.{number_of}
 use Rattle.errno.specs.Outcome.{granted, refused}
-use Rattle.rules.specs.declared.Answer.{Answer}
 use Rattle.rules.specs.State.{Limits, fresh}
 use Rattle.rules.specs.Queues as Queues
-use Rattle.rules.specs.Commands.{answered, errno_of, state_after}
+use Rattle.rules.specs.Commands.{Answer, answered, errno_of, state_after}
 use Rattle.layout.specs.Layout.{state_in}
 use Rattle.layout.specs.Carried.{Memory, read, Carried}
 use Rattle.setup.specs.Fresh.{start, fresh_memory}

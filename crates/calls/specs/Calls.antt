@@ -4,7 +4,6 @@
 -- Assumes nothing.
 use Rattle.std.specs.Prelude.{ℕ, ◌+◌, ◌*◌, ◌≤◌, ◌<◌, Bool, false, List, [], ◌∷◌, ◌++◌, ◌≡◌}
 use Rattle.errno.specs.Outcome.{Outcome}
-use Rattle.rules.specs.declared.Answer.{Answer}
 use Rattle.rules.specs.declared.Configuration.{Configuration}
 use Rattle.rules.specs.declared.Id.{Id}
 use Rattle.rules.specs.declared.Kind.{Kind}
@@ -13,7 +12,7 @@ use Rattle.rules.specs.State.{Limits, State, fresh}
 use Rattle.rules.specs.Queues.{Remaining, most_moves}
 use Rattle.rules.specs.Sweeps.{Sweep}
 use Rattle.rules.specs.Commands as Commands
-use Rattle.rules.specs.Commands.{answered}
+use Rattle.rules.specs.Commands.{Answer, answered}
 use Rattle.layout.specs.Carried.{Memory, read, on_words, Carried, CarriedWords}
 use Rattle.setup.specs.Fresh.{start, fresh_memory}
 use Rattle.sweep.specs.declared.Swept.{Swept}

@@ -1,5 +1,6 @@
 -- Setting the configuration.
 -- Assumes nothing.
+use Rattle.std.proofs.Common.{Ok, Err}
 use Prim.Native.Nat.{ℕ}
 use mathlib.Core.Bool.{Bool, true, false, cond, not, ◌&&◌, ◌||◌}
 use mathlib.Core.List.{List}
@@ -13,7 +14,6 @@ use Rattle.mask.specs.Bits.{bits, some_below, both, bits_above}
 use Rattle.mask.proofs.Laws.{mask_words_lem}
 use Rattle.rules.specs.contracts.Configuration.{the_row}
 use Rattle.rules.specs.declared.Configuration.{Configuration}
-use Rattle.rules.specs.declared.Answer.TheVariants.{Done, Refused}
 use Rattle.rules.specs.State.{queues, in_product}
 use Rattle.rules.specs.Queues.{configured}
 use Rattle.rules.specs.Commands.{beyond_limits, stored, with_config, configure}
@@ -49,12 +49,12 @@ module _ (g : Configuration) (ws : List ℕ) where
     unfolding configure state_in
     by_test t e = ap (λ (b : Bool). cond b (refused Enodev) (granted (with_config (stored g) (state_in ws qs)))) (sym e)
 
-    pub config_refused : true ≡ beyond_limits (limits_in ws) g → Carried (configure g) (configuredBy g) (memory ws qs) (memory ws qs) (Refused Enodev)
+    pub config_refused : true ≡ beyond_limits (limits_in ws) g → Carried (configure g) (configuredBy g) (memory ws qs) (memory ws qs) (Err Enodev)
     config_refused e = carried_refused (configure g) (configuredBy g) (memory ws qs) Enodev (by_test true e)
 
     -- the configuration's masks have four words each, by what owning it tells
     pub config_done : {vs rs : List ℕ} {owned : List Val} → false ≡ beyond_limits (limits_in ws) g → vs ≡ put_config ws g → rs ≡ unbind qs (taken_away ws g) queues
-        → Is the_row g owned → length ws ≡ word_count → length qs ≡ queues → Carried (configure g) (configuredBy g) (memory ws qs) (memory vs rs) Done
+        → Is the_row g owned → length ws ≡ word_count → length qs ≡ queues → Carried (configure g) (configuredBy g) (memory ws qs) (memory vs rs) (Ok tt)
     config_done {vs} {rs} e p q o l k =
         carried_granted (configure g) (configuredBy g) (memory ws qs) (memory vs rs) (with_config (stored g) (state_in ws qs)) (ap₂ memory p q) (by_test false e)
         (read_config ws g l (mask_words_lem g.adapters o.1.1.0) (mask_words_lem g.domains o.1.1.1.0) (mask_words_lem g.controls o.1.1.1.1.0) qs k)

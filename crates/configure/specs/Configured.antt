@@ -1,10 +1,9 @@
 -- What setting the configuration leaves in memory.
 -- The rules: RULES.md, "Commands".
 -- Assumes nothing.
-use Rattle.rules.specs.declared.Answer.{Answer}
 use Rattle.rules.specs.declared.Configuration.{Configuration}
 use Rattle.rules.specs.State.{queues}
-use Rattle.rules.specs.Commands.{configure}
+use Rattle.rules.specs.Commands.{Answer, configure}
 use Rattle.layout.specs.Layout.{put_config, unbind, taken_away}
 use Rattle.layout.specs.Lent.{LentMut}
 use Rattle.layout.specs.Carried.{Memory, memory, ObeysBoth}

@@ -11,11 +11,10 @@ use borrow.Author.Tests.{le-leb, lt-leb, ne_eqb}
 use Rattle.errno.specs.Outcome.{Outcome, granted, refused}
 use Rattle.errno.specs.Errno.{number_of}
 use Rattle.errno.specs.declared.Errno.TheVariants.{Einval}
-use Rattle.rules.specs.declared.Answer.{Answer}
 use Rattle.rules.specs.declared.Configuration.{Configuration}
 use Rattle.rules.specs.declared.Moved.{Moved}
 use Rattle.rules.specs.Queues.{move_answer, moved_number, most_moves}
-use Rattle.rules.specs.Commands.{answered}
+use Rattle.rules.specs.Commands.{Answer, answered}
 use Rattle.rules.specs.Commands as Commands
 use Rattle.layout.specs.Layout.{state_in}
 use Rattle.layout.specs.Carried.{Memory, memory, read, Carried}

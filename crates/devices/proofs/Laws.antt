@@ -1,22 +1,22 @@
--- A change of a device that is open as wanted.
+-- The check that the commands of a device's life have in common.
 -- Assumes nothing.
-use Prim.Native.Nat.{ℕ, ◌≤◌, ◌<◌}
-use mathlib.Core.Bool.{Bool, beq, true, false, cond, not}
+use Rattle.std.proofs.Common.{Ok, Err, Some, None}
+use Prim.Native.Nat.{ℕ, ◌<◌}
+use mathlib.Core.Bool.{Bool, beq, true, false, cond}
 use mathlib.Core.List.{List}
 use mathlib.Core.Path.{◌≡◌, refl, sym, ap, ◌∙◌}
-use lib.ListN.{length}
-use Rattle.errno.specs.Outcome.{granted, refused}
+use lib.Dec.{ltb}
+use borrow.Author.Tests.{ltb-true}
+use Rattle.errno.specs.Outcome.{Outcome, granted, refused}
 use Rattle.errno.specs.declared.Errno.{Errno}
 use Rattle.errno.specs.declared.Errno.TheVariants.{Enoent}
-use Rattle.rules.specs.declared.Answer.TheVariants.{Done, Refused}
 use Rattle.rules.specs.declared.Id.{Id}
-use Rattle.rules.specs.State.{State, slots}
-use Rattle.rules.specs.Commands.{slot_of, with_device}
-use Rattle.layout.specs.Layout.{word_count, device_in, state_in, put_device, put_open, no_id}
-use Rattle.layout.specs.Carried.{CarriedWords}
-use Rattle.layout.proofs.Laws.{refused_carried, done_carried, read_open, read_none}
-use Rattle.lookup.proofs.Found.{known, unknown}
-use Rattle.devices.specs.Effects.{as_wanted, next, changing, changed}
+use Rattle.rules.specs.State.{State, Devices, slots}
+use Rattle.rules.specs.Commands.{found, slot_of, on_device}
+use Rattle.rules.proofs.First.{found_some, found_nothing}
+use Rattle.layout.specs.Layout.{device_in, state_in}
+use Rattle.layout.proofs.Laws.{cond_below, cond_past}
+use Rattle.devices.specs.Effects.{as_wanted, slot_if}
 
 -- a flag is as wanted by a test for equality
 as_test : {A : Type 0} (w o : Bool) (a b : A) → as_wanted w o a b ≡ cond (beq o w) a b
@@ -25,39 +25,54 @@ as_test true false a b = refl
 as_test false true a b = refl
 as_test false false a b = refl
 
--- a change of the device with an id, which is looked for at slot p
-module _ (i : Id) (ws : List ℕ) (w : Bool) (e : Errno) (removes : Bool) (p : ℕ) (at : p ≡ slot_of i (device_in ws)) where
-  pub change_unknown : slots ≤ p → CarriedWords (changing i w e removes) (changed i w removes) ws ws (Refused Enoent)
-  unfolding changing
-  change_unknown h = refused_carried (changing i w e removes) (changed i w removes) ws Enoent (λ qs. unknown i ws qs p at _ h)
+-- the check by what the search for the id found, and by a test of the flag
+module _ (i : Id) (w : Bool) (e : Errno) (vs : Devices) where
+  pub nowhere : None ≡ found (slot_of i vs) → Err Enoent ≡ slot_if i w e vs
+  unfolding slot_if
+  nowhere h = sym (cond_past (slot_of i vs) slots _ (Err Enoent) (found_nothing h))
 
-  module _ (there : p < slots) where
-    abbrev after : List ℕ → State
-    after qs = with_device p (next w removes (device_in ws p)) (state_in ws qs)
+  pub by_open : {p : ℕ} (t : Bool) → Some p ≡ found (slot_of i vs) → t ≡ beq (vs p).is_open w → cond t (Ok p) (Err e) ≡ slot_if i w e vs
+  unfolding slot_if
+  by_open {p} t h is =
+      let at = found_some h in
+      ap (λ (b : Bool). cond b (Ok p) (Err e)) is ∙ sym (as_test w (vs p).is_open (Ok p) (Err e))
+      ∙ ap (λ (k : ℕ). as_wanted w (vs k).is_open (Ok k) (Err e)) at.1
+      ∙ sym (cond_below (slot_of i vs) slots _ (Err Enoent) (rw at.1 at at.0))
 
-    -- t says whether the device is open as wanted
-    by_open : (t : Bool) → t ≡ beq (device_in ws p).is_open w → (qs : List ℕ) → changing i w e removes (state_in ws qs) ≡ cond t (granted (after qs)) (refused e)
-    unfolding changing state_in
-    by_open t is qs =
-        known i ws qs p at
-        (λ k. as_wanted w (device_in ws k).is_open (granted (with_device k (next w removes (device_in ws k)) (state_in ws qs))) (refused e)) there
-        ∙ as_test w (device_in ws p).is_open _ _ ∙ ap (λ (b : Bool). cond b (granted (after qs)) (refused e)) (sym is)
+-- a command that makes the check, and is then granted
+module _ (i : Id) (w : Bool) (e : Errno) (ws qs : List ℕ) (next : ℕ → State) where
+  abbrev rule : Outcome State
+  rule = on_device i (state_in ws qs) (λ k. as_wanted w (device_in ws k).is_open (granted (next k)) (refused e))
 
-    pub change_refused : false ≡ beq (device_in ws p).is_open w → CarriedWords (changing i w e removes) (changed i w removes) ws ws (Refused e)
-    change_refused is = refused_carried (changing i w e removes) (changed i w removes) ws e (by_open false is)
+  pub check_refused : {x : Errno} → Err x ≡ slot_if i w e (device_in ws) → rule ≡ refused x
+  unfolding on_device state_in slot_if
+  check_refused {x} h = go (ltb p slots) w (device_in ws p).is_open h
+    where
+      p : ℕ
+      p = slot_of i (device_in ws)
 
-    -- the words of the device at p changed
-    abbrev put : Bool → List ℕ
-    put b = cond b (put_device ws p false no_id) (put_open ws p (not w))
+      go : (b w o : Bool) → Err x ≡ cond b (as_wanted w o (Ok p) (Err e)) (Err Enoent)
+          → cond b (as_wanted w o (granted (next p)) (refused e)) (refused Enoent) ≡ refused x
+      go true true true h = cc
+      go true true false h = cc
+      go true false true h = cc
+      go true false false h = cc
+      go false w o h = cc
 
-    pub change_done : length ws ≡ word_count → true ≡ beq (device_in ws p).is_open w → {vs : List ℕ} (b : Bool) → b ≡ removes → vs ≡ put b
-        → CarriedWords (changing i w e removes) (changed i w removes) ws vs Done
-    unfolding changed
-    change_done long is b r l =
-        let same = ap (λ (k : ℕ). cond removes (put_device ws k false no_id) (put_open ws k (not w))) at in
-        done_carried (changing i w e removes) (changed i w removes) ws after (l ∙ ap put r ∙ same) (by_open true is)
-        (λ qs. ap (λ (v : List ℕ). state_in v qs) (sym same) ∙ reads removes qs)
-      where
-        reads : (b : Bool) (qs : List ℕ) → state_in (put b) qs ≡ with_device p (next w b (device_in ws p)) (state_in ws qs)
-        reads true qs = read_none ws qs p long there
-        reads false qs = read_open ws qs p long there (not w)
+  pub check_passed : {p : ℕ} → Ok p ≡ slot_if i w e (device_in ws) → (p < slots) × (p ≡ slot_of i (device_in ws)) × (rule ≡ granted (next p))
+  unfolding on_device state_in slot_if
+  check_passed {p} h = go (ltb q slots) w (device_in ws q).is_open refl h
+    where
+      q : ℕ
+      q = slot_of i (device_in ws)
+
+      passed : ltb q slots ≡ true → p ≡ q → (p < slots) × (p ≡ q) × (granted (next q) ≡ granted (next p))
+      passed l e = (rw e (ltb-true q slots l), e, ap (λ (k : ℕ). granted (next k)) (sym e))
+
+      go : (b w o : Bool) → ltb q slots ≡ b → Ok p ≡ cond b (as_wanted w o (Ok q) (Err e)) (Err Enoent)
+          → (p < slots) × (p ≡ q) × (cond b (as_wanted w o (granted (next q)) (refused e)) (refused Enoent) ≡ granted (next p))
+      go true true true l h = passed l cc
+      go true true false l h = cc
+      go true false true l h = cc
+      go true false false l h = passed l cc
+      go false w o l h = cc

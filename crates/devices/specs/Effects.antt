@@ -1,12 +1,12 @@
--- What an accepted command of a device's life leaves in the words, and what three of the commands have in common.
+-- What an accepted command of a device's life leaves in the words, and the check that the three commands have in common.
 -- The rules: RULES.md, "Commands".
 -- Assumes nothing.
-use Rattle.std.specs.Prelude.{ℕ, Bool, true, false, cond, not, List}
-use Rattle.errno.specs.Outcome.{Outcome, granted, refused}
+use Rattle.std.specs.Prelude.{ℕ, Bool, true, false, cond, List, ltb, Result, Ok, Err}
 use Rattle.errno.specs.declared.Errno.{Errno}
+use Rattle.errno.specs.declared.Errno.TheVariants.{Enoent}
 use Rattle.rules.specs.declared.Id.{Id}
-use Rattle.rules.specs.State.{Device, State, no_device}
-use Rattle.rules.specs.Commands.{slot_of, on_device, with_device, with_open}
+use Rattle.rules.specs.State.{Devices, slots}
+use Rattle.rules.specs.Commands.{slot_of}
 use Rattle.layout.specs.Layout.{device_in, put_device, put_open, no_id}
 
 -- the device's slot is emptied
@@ -28,16 +28,7 @@ abbrev pub as_wanted : {A : Type 0} → Bool → Bool → A → A → A
 as_wanted true o a b = cond o a b
 as_wanted false o a b = cond o b a
 
--- a device that is removed, or else opened or closed
-abbrev pub next : Bool → Bool → Device → Device
-next wanted removes v = cond removes no_device (with_open (not wanted) v)
-
--- a command that removes, or else opens or closes, a device that is open as wanted: ENOENT, then e
-unfoldable pub changing : Id → Bool → Errno → Bool → State → Outcome State
-changing i wanted e removes s =
-    on_device i s (λ p.
-    as_wanted wanted (s.device p).is_open (granted (with_device p (next wanted removes (s.device p)) s)) (refused e))
-
--- what it leaves in the words
-unfoldable pub changed : Id → Bool → Bool → List ℕ → List ℕ
-changed i wanted removes ws = cond removes (removed i ws) (put_open ws (slot_of i (device_in ws)) (not wanted))
+-- the slot of the device with an id, which is open as wanted: ENOENT, then e
+unfoldable pub slot_if : Id → Bool → Errno → Devices → Result ℕ Errno
+slot_if i wanted e vs =
+    cond (ltb (slot_of i vs) slots) (as_wanted wanted (vs (slot_of i vs)).is_open (Ok (slot_of i vs)) (Err e)) (Err Enoent)

@@ -3,48 +3,50 @@
 // Rests on errno, rules, layout, record, store and lookup.
 #![tactic(auto)]
 
+ghost use Rattle.std.specs.Prelude.{◌≡◌};
 ghost use Rattle.rules.specs.Commands.{remove, open_device, close_device};
+ghost use Rattle.layout.specs.Lent.{devices};
 ghost use Rattle.layout.specs.Carried.{Obeys};
-ghost use Rattle.devices.specs.Effects.{removed, opened, closed, changing, changed};
+ghost use Rattle.devices.specs.Effects.{removed, opened, closed, slot_if};
 
 use errno::Errno;
-use layout::{SLOTS, Words};
+use layout::Words;
 use rules::{Answer, Id};
 
 pub fn remove(words: &mut Words, id: Id) -> Answer
     ensures { Obeys (remove id) (removed id) words.entry words.exit result }
 {
-    change(words, id, false, Errno::Ebusy, true)
+    layout::hold_words(words);
+    let freed = slot_if(words, id, false, Errno::Ebusy)?;
+    store::put_device(words, freed, false, Id { hi: 0, lo: 0 });
+    Ok(())
 }
 
 pub fn open(words: &mut Words, id: Id) -> Answer
     ensures { Obeys (open_device id) (opened id) words.entry words.exit result }
 {
-    change(words, id, false, Errno::Ebusy, false)
+    layout::hold_words(words);
+    let slot = slot_if(words, id, false, Errno::Ebusy)?;
+    store::put_open(words, slot, true);
+    Ok(())
 }
 
 pub fn close(words: &mut Words, id: Id) -> Answer
     ensures { Obeys (close_device id) (closed id) words.entry words.exit result }
 {
-    change(words, id, true, Errno::Einval, false)
+    layout::hold_words(words);
+    let slot = slot_if(words, id, true, Errno::Einval)?;
+    store::put_open(words, slot, false);
+    Ok(())
 }
 
-// Removes the device with an id, or else opens or closes it. It must be open, or not, as wanted; otherwise it is refused.
-fn change(words: &mut Words, id: Id, wanted: bool, otherwise: Errno, removes: bool) -> Answer
-    ensures { Obeys (changing id wanted otherwise removes) (changed id wanted removes) words.entry words.exit result }
+// The slot of the device with an id, if it is open, or not, as wanted; otherwise it is refused.
+fn slot_if(words: &Words, id: Id, wanted: bool, otherwise: Errno) -> Result<usize, Errno>
+    ensures { result ≡ slot_if id wanted otherwise (devices words.entry) }
 {
-    let slot = lookup::find(words, id);
-    if SLOTS <= slot {
-        return Answer::Refused(Errno::Enoent);
-    }
+    let slot = lookup::find(words, id).ok_or(Errno::Enoent)?;
     if record::is_open(words, slot) != wanted {
-        return Answer::Refused(otherwise);
+        return Err(otherwise);
     }
-    layout::hold_words(words);
-    if removes {
-        store::put_device(words, slot, false, Id { hi: 0, lo: 0 });
-        return Answer::Done;
-    }
-    store::put_open(words, slot, !wanted);
-    Answer::Done
+    Ok(slot)
 }

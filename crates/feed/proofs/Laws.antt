@@ -9,7 +9,7 @@ use lib.ListN.{length, take, drop}
 use lib.Seq.{paste, length-paste, length-take-le, take-take}
 use borrow.Author.Tests.{le-leb}
 use Rattle.errno.specs.Outcome.{Outcome}
-use Rattle.rules.specs.declared.Answer.{Answer}
+use Rattle.rules.specs.Commands.{Answer}
 use Rattle.rules.specs.State.{Limits}
 use Rattle.layout.specs.Carried.{Memory}
 use Rattle.calls.specs.Calls.{Freshened, begins}

@@ -5,25 +5,23 @@
 
 ghost use Rattle.std.specs.Prelude.{◌≡◌};
 ghost use Rattle.rules.specs.State.{apqn};
-ghost use Rattle.rules.specs.Commands.{product};
+ghost use Rattle.rules.specs.Commands.{found, product};
 ghost use Rattle.layout.specs.Lent.{devices};
 ghost use Rattle.holder.specs.Holder.{holder_of};
 
 use layout::{SLOTS, Words};
 use mask::{Apid, Apqi};
 
-// The slot of the device that has a queue, open or not, or SLOTS where none has it.
-pub fn holder(words: &Words, adapter: Apid, domain: Apqi) -> usize
-    ensures { result ≡ holder_of (devices words.entry) (apqn adapter domain) }
+// The slot of the device that has a queue, open or not.
+pub fn holder(words: &Words, adapter: Apid, domain: Apqi) -> Option<usize>
+    ensures { result ≡ found (holder_of (devices words.entry) (apqn adapter domain)) }
 {
-    let mut slot = 0usize;
-    while slot < SLOTS {
+    for slot in 0..SLOTS {
         if holds(words, slot, adapter, domain) {
-            return slot;
+            return Some(slot);
         }
-        slot += 1;
     }
-    slot
+    None
 }
 
 // Whether the device at a slot has a queue.

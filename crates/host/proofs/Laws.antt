@@ -1,5 +1,6 @@
 -- Setting either host mask, by one law.
 -- Assumes nothing.
+use Rattle.std.proofs.Common.{Ok, Err}
 use Prim.Native.Nat.{ℕ}
 use mathlib.Core.Bool.{Bool, true, false, cond}
 use mathlib.Core.List.{List}
@@ -15,11 +16,9 @@ use Rattle.mask.proofs.Laws.{mask_words_lem}
 use Rattle.masktext.specs.contracts.MaskRead.{the_row}
 use Rattle.masktext.specs.declared.MaskRead.{MaskRead}
 use Rattle.masktext.specs.Text.{outcome, mask_text}
-use Rattle.rules.specs.declared.Answer.{Answer}
-use Rattle.rules.specs.declared.Answer.TheVariants.{Done, Refused}
 use Rattle.rules.specs.State.{State, HostMasks, Devices, slots, queues, in_product}
 use Rattle.rules.specs.Queues.{reserved}
-use Rattle.rules.specs.Commands.{reading, set_host, set_apmask, set_aqmask, with_host, assigned, assigned_elsewhere}
+use Rattle.rules.specs.Commands.{Answer, reading, set_host, set_apmask, set_aqmask, with_host, assigned, assigned_elsewhere}
 use Rattle.rules.proofs.Products.{elsewhere_anywhere}
 use Rattle.layout.specs.Carried.{CarriedWords}
 use Rattle.layout.specs.Layout.{word_count, apmask_at, aqmask_at, mask_at, device_in, host_in, state_in, put_four, words_of}
@@ -28,10 +27,10 @@ use Rattle.host.specs.Masks.{mask_or, with_mask, admitted, left}
 
 -- what the two tests find
 pub by_answers : (good : Bool) (m : Bits) (vs : Devices) (g t : Bool) → g ≡ good → t ≡ some_below queues (both m (assigned_elsewhere slots vs))
-    → cond g (cond t (Refused Eaddrinuse) Done) (Refused Einval) ≡ admitted good m vs
+    → cond g (cond t (Err Eaddrinuse) (Ok tt)) (Err Einval) ≡ admitted good m vs
 unfolding admitted
 by_answers good m vs g t p q =
-    ap₂ (λ (x y : Bool). cond x (cond y (Refused Eaddrinuse) Done) (Refused Einval)) p
+    ap₂ (λ (x y : Bool). cond x (cond y (Err Eaddrinuse) (Ok tt)) (Err Einval)) p
     (q ∙ ap (λ (u : Bits). some_below queues (both m u)) (elsewhere_anywhere vs))
 
 -- the mask lies at word `at`, and `host` is both masks with it replaced
@@ -64,7 +63,7 @@ module _ (text ws : List ℕ) (at : ℕ) (host : Bits → HostMasks) (rule : Sta
       (sym (words_of_lem four) ∙ ap words_of (ap (mask_or (mask_at ws at)) (ap (λ (b : Bool). cond b (granted (bits new.mask)) (refused Einval)) (sym p) ∙ read)))
 
   by_tests : (g t : Bool) → new.good ≡ g → in_use ≡ t → CarriedWords rule (with_mask at text) ws
-      (left at new.mask (cond g (cond t (Refused Eaddrinuse) Done) (Refused Einval)) ws) (cond g (cond t (Refused Eaddrinuse) Done) (Refused Einval))
+      (left at new.mask (cond g (cond t (Err Eaddrinuse) (Ok tt)) (Err Einval)) ws) (cond g (cond t (Err Eaddrinuse) (Ok tt)) (Err Einval))
   by_tests false t p q = refused_carried rule (with_mask at text) ws Einval (comes false t p q)
   by_tests true true p q = refused_carried rule (with_mask at text) ws Eaddrinuse (comes true true p q)
   by_tests true false p q =

@@ -1,5 +1,6 @@
 -- The record's parts, read after they are put; the words of a mask; a command that is carried out.
 -- Assumes nothing.
+use Rattle.std.proofs.Common.{Ok, Err}
 use Prim.Native.Nat.{ℕ, zero, suc, ◌+◌, ◌-◌, ◌≤◌, ◌<◌, min, max}
 use native.Mathlib.Nat.{zero-add, le_of_suc-le-suc, not-suc-le-zero, eq-or-lt_of_le, min-eq_left}
 use native.Mathlib.Numerals.{add-one}
@@ -16,8 +17,6 @@ use Rattle.errno.specs.declared.Errno.{Errno}
 use Rattle.errno.specs.Outcome.{Outcome, granted, refused}
 use Rattle.mask.specs.Bits.{Sized, Bits, bits, bit_at, no_bits, all_bits, numbers}
 use Rattle.mask.proofs.Laws.{zero_bits, one_bits, past_end, numbers_words, numbers_bits, numbers_of_bits, below_four}
-use Rattle.rules.specs.declared.Answer.{Answer}
-use Rattle.rules.specs.declared.Answer.TheVariants.{Done, Refused}
 use Rattle.rules.specs.declared.Kind.{Kind}
 use Rattle.rules.specs.declared.Kind.TheVariants.{Adapter, Domain, Control}
 use Rattle.rules.specs.declared.Driver.{Driver}
@@ -26,7 +25,7 @@ use Rattle.rules.specs.declared.Id.{Id}
 use Rattle.rules.specs.declared.Configuration.{Configuration}
 use Rattle.rules.specs.State.{HostMasks, Device, State, slots, queues, no_device, fresh}
 use Rattle.rules.specs.Queues.{rebound}
-use Rattle.rules.specs.Commands.{numbers_of, with_device, with_host, with_numbers, with_open, new_device, with_config, stored, answered, errno_of, state_after}
+use Rattle.rules.specs.Commands.{Answer, numbers_of, with_device, with_host, with_numbers, with_open, new_device, with_config, stored, errno_of, state_after}
 use Rattle.layout.specs.Layout.{word_count, four, mask_at, flag, driver_of, byte_of, limits_in, host_in, config_in, device_in, state_in, words_of, put_four, put_numbers, put_open, put_device, put_types, put_config, fresh_words, unbind, taken_away, apmask_at, aqmask_at, config_at, types_at, device_at, kind_at, no_id, zeros, ones}
 use Rattle.layout.specs.Carried.{Memory, memory, read, on_words, memory_after, Carried, CarriedWords}
 
@@ -594,8 +593,8 @@ module _ (a d : ℕ) where
 
 -- a refusal leaves every byte
 pub carried_refused : (rule : State → Outcome State) (effect : Memory → Memory) (m : Memory) (e : Errno) → rule (read m) ≡ refused e
-    → Carried rule effect m m (Refused e)
-unfolding answered errno_of state_after memory_after
+    → Carried rule effect m m (Err e)
+unfolding errno_of state_after memory_after
 carried_refused rule effect m e h =
     record {
       answer = sym (ap errno_of h);
@@ -605,8 +604,8 @@ carried_refused rule effect m e h =
 
 -- an accepted call leaves its effect
 pub carried_granted : (rule : State → Outcome State) (effect : Memory → Memory) (m n : Memory) (t : State) → n ≡ effect m → rule (read m) ≡ granted t
-    → read (effect m) ≡ t → Carried rule effect m n Done
-unfolding answered errno_of state_after memory_after
+    → read (effect m) ≡ t → Carried rule effect m n (Ok tt)
+unfolding errno_of state_after memory_after
 carried_granted rule effect m n t e h k =
     record {
       answer = sym (ap errno_of h);
@@ -616,11 +615,11 @@ carried_granted rule effect m n t e h k =
 
 -- the same of a command that is lent the words alone
 pub refused_carried : (rule : State → Outcome State) (effect : List ℕ → List ℕ) (ws : List ℕ) (e : Errno)
-    → ((qs : List ℕ) → rule (state_in ws qs) ≡ refused e) → CarriedWords rule effect ws ws (Refused e)
+    → ((qs : List ℕ) → rule (state_in ws qs) ≡ refused e) → CarriedWords rule effect ws ws (Err e)
 refused_carried rule effect ws e h = λ qs. carried_refused rule (on_words effect) (memory ws qs) e (h qs)
 
 pub done_carried : (rule : State → Outcome State) (effect : List ℕ → List ℕ) (ws : List ℕ) {vs : List ℕ} (t : List ℕ → State) → vs ≡ effect ws
-    → ((qs : List ℕ) → rule (state_in ws qs) ≡ granted (t qs)) → ((qs : List ℕ) → state_in (effect ws) qs ≡ t qs) → CarriedWords rule effect ws vs Done
+    → ((qs : List ℕ) → rule (state_in ws qs) ≡ granted (t qs)) → ((qs : List ℕ) → state_in (effect ws) qs ≡ t qs) → CarriedWords rule effect ws vs (Ok tt)
 done_carried rule effect ws {vs} t e h k =
     λ qs. carried_granted rule (on_words effect) (memory ws qs) (memory vs qs) (t qs) (ap (λ (l : List ℕ). memory l qs) e) (h qs) (k qs)
 

@@ -3,9 +3,8 @@
 -- Assumes nothing.
 use Rattle.std.specs.Prelude.{ℕ, List, ◌≡◌}
 use Rattle.errno.specs.Outcome.{Outcome, granted, refused}
-use Rattle.rules.specs.declared.Answer.{Answer}
 use Rattle.rules.specs.State.{State}
-use Rattle.rules.specs.Commands.{answered, errno_of, state_after}
+use Rattle.rules.specs.Commands.{Answer, answered, errno_of, state_after}
 use Rattle.layout.specs.Layout.{state_in}
 use Rattle.layout.specs.Lent.{LentMut}
 

@@ -6,7 +6,7 @@
 ghost use Rattle.std.specs.Prelude.{◌&&◌, ◌≡◌};
 ghost use Rattle.mask.specs.Bits.{some_below, both};
 ghost use Rattle.rules.specs.State.{queues};
-ghost use Rattle.rules.specs.Commands.{same_id, slot_of, free_slot, product, assigned_elsewhere};
+ghost use Rattle.rules.specs.Commands.{same_id, found, slot_of, free_slot, product, assigned_elsewhere};
 ghost use Rattle.product.specs.Meet.{queues_of};
 ghost use Rattle.layout.specs.Lent.{devices};
 
@@ -14,31 +14,23 @@ use layout::{SLOTS, Words};
 use product::Product;
 use rules::Id;
 
-// The slot of the device with an id, or SLOTS where there is none.
-pub fn find(words: &Words, id: Id) -> usize
-    ensures { result ≡ slot_of id (devices words.entry) }
+// The slot of the device with an id.
+pub fn find(words: &Words, id: Id) -> Option<usize>
+    ensures { result ≡ found (slot_of id (devices words.entry)) }
 {
-    let mut slot = 0usize;
-    while slot < SLOTS {
+    for slot in 0..SLOTS {
         if is_at(words, slot, id) {
-            return slot;
+            return Some(slot);
         }
-        slot += 1;
     }
-    slot
+    None
 }
 
 // Whether the device with an id is at a slot.
 fn is_at(words: &Words, slot: usize, id: Id) -> bool
     ensures { result ≡ ((devices words.entry slot).present && same_id id (devices words.entry slot).id) }
 {
-    if occupied(words, slot) {
-        let j = record::id(words, slot);
-        if id.hi == j.hi {
-            return id.lo == j.lo;
-        }
-    }
-    false
+    occupied(words, slot) && id == record::id(words, slot)
 }
 
 // Whether there is a device at a slot, open or not.
@@ -48,32 +40,26 @@ fn occupied(words: &Words, slot: usize) -> bool
     record::present(words, slot)
 }
 
-// The lowest free slot, or SLOTS where there is none.
-pub fn free(words: &Words) -> usize
-    ensures { result ≡ free_slot (devices words.entry) }
+// The lowest free slot.
+pub fn free(words: &Words) -> Option<usize>
+    ensures { result ≡ found (free_slot (devices words.entry)) }
 {
-    let mut at = 0usize;
-    while at < SLOTS {
+    for at in 0..SLOTS {
         if !occupied(words, at) {
-            return at;
+            return Some(at);
         }
-        at += 1;
     }
-    at
+    None
 }
 
 // Whether a queue that is wanted is assigned to another device than the one at a slot.
 pub fn taken(words: &Words, slot: usize, wanted: Product) -> bool
     ensures { result ≡ some_below queues (both (queues_of wanted) (assigned_elsewhere slot (devices words.entry))) }
 {
-    let mut other = 0usize;
-    while other < SLOTS {
-        if other != slot {
-            if shares(words, other, wanted) {
-                return true;
-            }
+    for other in 0..SLOTS {
+        if other != slot && shares(words, other, wanted) {
+            return true;
         }
-        other += 1;
     }
     false
 }

@@ -79,10 +79,10 @@ pub fn answer(rt: &impl Print, done: &[u8], refused: &[u8], a: Answer) -> io::Re
 {
     let r = rules::answer_number(a);
     match a {
-        Answer::Done => {
+        Ok(()) => {
             text(rt, done)?;
         }
-        Answer::Refused(e) => {
+        Err(e) => {
             text(rt, refused)?;
             name(rt, e)?;
             text(rt, b"\n")?;

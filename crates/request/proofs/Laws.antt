@@ -8,13 +8,12 @@ use mathlib.Core.Path.{◌≡◌, refl, sym, ap, subst, ◌∙◌}
 use lib.Dec.{eqb}
 use lib.ListN.{get_or, drop}
 use borrow.Author.Tests.{ne_eqb, le-leb, lt-leb}
-use Rattle.rules.specs.declared.Answer.{Answer}
 use Rattle.rules.specs.declared.Id.{Id}
 use Rattle.rules.specs.declared.Kind.{Kind}
 use Rattle.rules.specs.declared.Moved.{Moved}
 use Rattle.rules.specs.State.{State}
 use Rattle.rules.specs.Queues.{move_answer, moved_number, remaining}
-use Rattle.rules.specs.Commands.{answered}
+use Rattle.rules.specs.Commands.{Answer, answered}
 use Rattle.layout.specs.Layout.{state_in}
 use Rattle.layout.specs.Carried.{Memory, memory, Carried}
 use Rattle.sweep.specs.declared.Swept.{Swept}

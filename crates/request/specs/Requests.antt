@@ -2,12 +2,11 @@
 -- The rules: RULES.md, "Reference model and demand 3".
 -- Assumes nothing.
 use Rattle.std.specs.Prelude.{ℕ, min, cond, List, [], ◌∷◌, ◌≡◌, eqb}
-use Rattle.rules.specs.declared.Answer.{Answer}
 use Rattle.rules.specs.declared.Id.{Id}
 use Rattle.rules.specs.declared.Kind.{Kind}
 use Rattle.rules.specs.State.{State, queues}
 use Rattle.rules.specs.Queues.{moved_number, move_answer, remaining, most_moves}
-use Rattle.rules.specs.Commands.{answered, errno_of}
+use Rattle.rules.specs.Commands.{Answer, answered, errno_of}
 use Rattle.layout.specs.Lent.{Lent, LentMut}
 use Rattle.layout.specs.Carried.{Memory, memory, read, memory_after}
 use Rattle.bind.specs.Moves.{move_bytes}

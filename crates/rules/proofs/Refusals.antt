@@ -14,13 +14,12 @@ use Rattle.errno.specs.Errno.{number_of}
 use Rattle.errno.specs.declared.Errno.TheVariants.{Eaddrinuse, Eaddrnotavail}
 use Rattle.mask.specs.Bits.{Bits, some_below, both, no_bits, included}
 use Rattle.mask.proofs.Laws.{some_elim, some_none}
-use Rattle.rules.specs.declared.Answer.{Answer}
 use Rattle.rules.specs.declared.Id.{Id}
 use Rattle.rules.specs.declared.Kind.{Kind}
 use Rattle.rules.specs.declared.Kind.TheVariants.{Adapter, Domain, Control}
 use Rattle.rules.specs.State.{Device, Devices, State, slots, queues, in_product}
 use Rattle.rules.specs.Queues.{reserved}
-use Rattle.rules.specs.Commands.{answered, errno_of, slot_of, product, assigned_elsewhere, reading, on_device, numbers_of, with_numbers, limit_of, single, paired, adds, adding, assign_at, assign_number, assign, with_device, same_id, first_from}
+use Rattle.rules.specs.Commands.{Answer, answered, errno_of, slot_of, product, assigned_elsewhere, reading, on_device, numbers_of, with_numbers, limit_of, single, paired, adds, adding, assign_at, assign_number, assign, with_device, same_id, first_from}
 use Rattle.rules.specs.Refusals.{Clash, NumberRefusedExactly, RefusedExactly}
 use Rattle.rules.proofs.First.{first_holds}
 use Rattle.rules.proofs.Products.{both_left, both_right, in_both}

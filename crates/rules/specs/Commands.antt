@@ -1,7 +1,8 @@
 -- The commands, with their checks in order (RULES.md, "Commands"). A refusal changes nothing.
 -- Assumes nothing.
-use Rattle.std.specs.Prelude.{ℕ, zero, suc, Bool, true, false, cond, not, ◌&&◌, ◌||◌, List, get_or, eqb, ltb, leb}
+use Rattle.std.specs.Prelude.{ℕ, zero, suc, Bool, true, false, cond, not, ◌&&◌, ◌||◌, List, get_or, eqb, ltb, leb, Option, Some, None, Result, Ok, Err}
 use Rattle.errno.specs.Outcome.{Outcome, granted, refused}
+use Rattle.errno.specs.declared.Errno.{Errno}
 use Rattle.errno.specs.declared.Errno.TheVariants.{Enoent, Ebusy, Eexist, Enodev, Einval, Enospc, Eaddrinuse, Eaddrnotavail}
 use Rattle.errno.specs.Errno.{number_of}
 use Rattle.mask.specs.Bits.{Bits, bits, no_bits, some_below, both, bits_above, included, excluded}
@@ -9,18 +10,20 @@ use Rattle.number.specs.Text.{number_text}
 use Rattle.masktext.specs.Text.{mask_text}
 use Rattle.rules.specs.declared.Driver.TheVariants.{Unbound}
 use Rattle.rules.specs.declared.Id.{Id}
-use Rattle.rules.specs.declared.Answer.{Answer}
-use Rattle.rules.specs.declared.Answer.TheVariants.{Done, Refused}
 use Rattle.rules.specs.declared.Configuration.{Configuration}
 use Rattle.rules.specs.declared.Kind.{Kind}
 use Rattle.rules.specs.declared.Kind.TheVariants.{Adapter, Domain, Control}
 use Rattle.rules.specs.State.{Limits, HostMasks, Config, Device, Devices, State, slots, queues, in_product, no_device}
 use Rattle.rules.specs.Queues.{reserved, configured}
 
+-- what a command answers
+abbrev pub Answer : Type 0
+Answer = Result (Unit {0}) Errno
+
 -- the errno value of an answer; 0 is no refusal
-unfoldable pub answered : Answer → ℕ
-answered Done = 0
-answered (Refused e) = number_of e
+abbrev pub answered : Answer → ℕ
+answered (Ok u) = 0
+answered (Err e) = number_of e
 
 -- the errno value of an outcome; 0 is no refusal
 unfoldable pub errno_of : Outcome State → ℕ
@@ -40,6 +43,10 @@ same_id i j = eqb i.hi j.hi && eqb i.lo j.lo
 unfoldable pub first_from : ℕ → ℕ → Bits → ℕ
 first_from zero k p = k
 first_from (suc n) k p = cond (p k) k (first_from n (suc k) p)
+
+-- a slot, or none: a search that ends past the last slot found none
+abbrev pub found : ℕ → Option ℕ
+found p = cond (ltb p slots) (Some p) None
 
 -- the slot of the device with an id: the first of two that have it; `slots` where there is none
 unfoldable pub slot_of : Id → Devices → ℕ

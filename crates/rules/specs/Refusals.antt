@@ -3,12 +3,11 @@
 use Rattle.std.specs.Prelude.{ℕ, ◌≤◌, ◌<◌, true, List, ◌≡◌, ◌↔◌, ◌⊎◌}
 use Rattle.errno.specs.Outcome.{granted}
 use Rattle.number.specs.Text.{number_text}
-use Rattle.rules.specs.declared.Answer.{Answer}
 use Rattle.rules.specs.declared.Id.{Id}
 use Rattle.rules.specs.declared.Kind.{Kind}
 use Rattle.rules.specs.State.{Limits, HostMasks, Devices, slots, queues}
 use Rattle.rules.specs.Queues.{reserved}
-use Rattle.rules.specs.Commands.{answered, slot_of, limit_of, adds, assigned_elsewhere}
+use Rattle.rules.specs.Commands.{Answer, answered, slot_of, limit_of, adds, assigned_elsewhere}
 
 -- a queue that number n would add to the product of the device at slot p is reserved for the host or assigned to another device
 unfoldable pub Clash : Kind → ℕ → ℕ → HostMasks → Devices → Type 0

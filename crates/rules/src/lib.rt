@@ -45,12 +45,8 @@ pub enum Matrix {
     Guest,
 }
 
-// What a command answers.
-#[derive(Clone, Copy)]
-pub enum Answer {
-    Done,
-    Refused(Errno),
-}
+// What a command answers: nothing but that it was done, or why it is refused.
+pub type Answer = Result<(), Errno>;
 
 // The 16 bytes of a mediated device's id, as two big-endian numbers.
 #[derive(Clone, Copy, PartialEq, Eq)]
@@ -81,8 +77,8 @@ pub fn answer_number(answer: Answer) -> u8
     ensures { result ≡ answered answer }
 {
     match answer {
-        Answer::Done => 0,
-        Answer::Refused(e) => errno::number(e),
+        Ok(()) => 0,
+        Err(e) => errno::number(e),
     }
 }
 

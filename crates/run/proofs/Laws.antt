@@ -12,9 +12,8 @@ use lib.Seq.{append_snoc, length-take-le, take_all, take-suc-set, drop-set-lt, d
 use borrow.Author.Tests.{leb-true, le-leb}
 use Rattle.errno.specs.Outcome.{granted, refused}
 use Rattle.errno.specs.declared.Errno.TheVariants.{Einval}
-use Rattle.rules.specs.declared.Answer.{Answer}
 use Rattle.rules.specs.State.{Limits, State, fresh}
-use Rattle.rules.specs.Commands.{answered, errno_of}
+use Rattle.rules.specs.Commands.{Answer, answered, errno_of}
 use Rattle.layout.specs.Carried.{Memory, read, memory_after, Carried}
 use Rattle.setup.specs.Fresh.{start, fresh_memory}
 use Rattle.model.specs.Steps.{Step, after_all}

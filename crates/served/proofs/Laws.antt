@@ -3,12 +3,11 @@
 use Prim.Native.Nat.{ℕ}
 use mathlib.Core.List.{List, [], ◌∷◌}
 use mathlib.Core.Path.{◌≡◌, refl, sym, ap, subst, ◌∙◌}
-use Rattle.rules.specs.declared.Answer.{Answer}
 use Rattle.rules.specs.declared.Configuration.{Configuration}
 use Rattle.rules.specs.declared.Id.{Id}
 use Rattle.rules.specs.declared.Kind.{Kind}
 use Rattle.rules.specs.Commands as Commands
-use Rattle.rules.specs.Commands.{answered, unassign_number}
+use Rattle.rules.specs.Commands.{Answer, answered, unassign_number}
 use Rattle.layout.specs.Carried.{Memory, memory, Carried, CarriedWords}
 use Rattle.assignnumber.specs.Numbers.{AssigningNumber, unassigned_from}
 use Rattle.assign.specs.Numbers.{unassigned, Assigning}

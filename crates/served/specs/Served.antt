@@ -3,10 +3,9 @@
 -- Assumes nothing.
 use Rattle.std.specs.Prelude.{ℕ, ◌+◌, ◌*◌, List, [], ◌≡◌}
 use denote.Triple.Both.{Both}
-use Rattle.rules.specs.declared.Answer.{Answer}
 use Rattle.rules.specs.declared.Id.{Id}
 use Rattle.rules.specs.declared.Kind.{Kind}
-use Rattle.rules.specs.Commands.{answered, unassign_number}
+use Rattle.rules.specs.Commands.{Answer, answered, unassign_number}
 use Rattle.rules.specs.Refusals.{RefusedExactly}
 use Rattle.fields.specs.Fields.{id_of}
 use Rattle.layout.specs.Layout.{limits_in, host_in, device_in}

@@ -1,5 +1,6 @@
 -- A refused and a granted call of `fresh`.
 -- Assumes nothing.
+use Rattle.std.proofs.Common.{Ok, Err}
 use Prim.Native.Nat.{ℕ, ◌<◌, ◌≤◌}
 use mathlib.Core.Bool.{Bool, cond, ◌&&◌, and-false}
 use mathlib.Core.Logic.{◌⊎◌, inl, inr}
@@ -8,7 +9,6 @@ use lib.Dec.{leb}
 use borrow.Author.Tests.{le-leb, lt-leb}
 use Rattle.errno.specs.Outcome.{granted, refused}
 use Rattle.errno.specs.declared.Errno.TheVariants.{Einval}
-use Rattle.rules.specs.declared.Answer.TheVariants.{Done, Refused}
 use Rattle.rules.specs.State.{State, fresh}
 use Rattle.layout.specs.Carried.{Memory, read, Carried}
 use Rattle.layout.proofs.Laws.{read_fresh, carried_refused, carried_granted}
@@ -25,10 +25,10 @@ module _ (a d : ℕ) where
       ap (λ (b : Bool). cond (leb a 255 && b) (granted made) (refused Einval)) (lt-leb d 255 h)
       ∙ ap (λ (b : Bool). cond b (granted made) (refused Einval)) (and-false (leb a 255))
 
-  pub refuses : (m : Memory) → (255 < a) ⊎ (255 < d) → Carried (start a d) (λ n. fresh_memory a d) m m (Refused Einval)
+  pub refuses : (m : Memory) → (255 < a) ⊎ (255 < d) → Carried (start a d) (λ n. fresh_memory a d) m m (Err Einval)
   refuses m h = carried_refused (start a d) (λ n. fresh_memory a d) m Einval (above (read m) h)
 
-  pub makes : (m n : Memory) → a ≤ 255 → d ≤ 255 → n ≡ fresh_memory a d → Carried (start a d) (λ n. fresh_memory a d) m n Done
+  pub makes : (m n : Memory) → a ≤ 255 → d ≤ 255 → n ≡ fresh_memory a d → Carried (start a d) (λ n. fresh_memory a d) m n (Ok tt)
   unfolding start made
   makes m n h k e =
       carried_granted (start a d) (λ n. fresh_memory a d) m n made e

@@ -4,7 +4,7 @@
 use Rattle.std.specs.Prelude.{ℕ, cond, ◌&&◌, replicate, leb}
 use Rattle.errno.specs.Outcome.{Outcome, granted, refused}
 use Rattle.errno.specs.declared.Errno.TheVariants.{Einval}
-use Rattle.rules.specs.declared.Answer.{Answer}
+use Rattle.rules.specs.Commands.{Answer}
 use Rattle.rules.specs.State.{State, queues, fresh}
 use Rattle.layout.specs.Layout.{fresh_words}
 use Rattle.layout.specs.Lent.{LentMut}

@@ -3,7 +3,8 @@
 // Rests on errno, mask, rules, layout, store and drivers.
 #![tactic(auto)]
 
-ghost use Rattle.std.specs.Prelude.{◌≡◌};
+ghost use Rattle.std.specs.Prelude.{◌≡◌, ◌<◌, ◌≤◌, MatchResult};
+ghost use Rattle.errno.specs.declared.Errno.TheVariants.{Einval};
 ghost use Rattle.rules.specs.State.{slots};
 ghost use Rattle.layout.specs.Layout.{fresh_words, no_configuration, clear_slots};
 ghost use Rattle.setup.specs.Fresh.{Freshens};
@@ -17,19 +18,18 @@ use rules::{Answer, Configuration, Id};
 pub fn fresh(words: &mut Words, drivers: &mut Drivers, adapter: u64, domain: u64) -> Answer
     ensures { Freshens adapter domain words.entry words.exit drivers.entry drivers.exit result }
 {
-    if 255 < adapter {
-        return Answer::Refused(Errno::Einval);
-    }
-    if 255 < domain {
-        return Answer::Refused(Errno::Einval);
-    }
-    put_fresh(
-        words,
-        Apid((adapter % 256) as u8),
-        Apqi((domain % 256) as u8),
-    );
+    let adapter = limit(adapter)?;
+    let domain = limit(domain)?;
+    put_fresh(words, Apid(adapter), Apqi(domain));
     drivers::put_unbound(drivers);
-    Answer::Done
+    Ok(())
+}
+
+// A limit is at most 255.
+fn limit(n: u64) -> Result<u8, Errno>
+    ensures { MatchResult result (λ l. (l ≡ n) × (n ≤ 255)) (λ e. (e ≡ Einval) × (255 < n)) }
+{
+    u8::try_from(n).map_err(|_| Errno::Einval)
 }
 
 // A fresh record: the limits, both host masks all ones, nothing configured, no device. Every word is written.
@@ -63,9 +63,7 @@ fn nothing_configured() -> Configuration
 fn clear_slots(words: &mut Words)
     ensures { words.new ≡ clear_slots words.old slots }
 {
-    let mut slot = 0usize;
-    while slot < SLOTS {
+    for slot in 0..SLOTS {
         store::put_device(words, slot, false, Id { hi: 0, lo: 0 });
-        slot += 1;
     }
 }

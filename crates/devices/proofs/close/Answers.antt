@@ -1,8 +1,35 @@
--- `close` meets its contract, by `change`.
-use Rattle.rules.specs.Commands.{close_device}
-use Rattle.devices.specs.Effects.{changing, changed}
+-- `close` meets its contract: a refusal of the check, or the effect.
+use Rattle.std.proofs.Common.{ℕ, List, true, false, sym, ap, ◌∙◌}
+use Rattle.std.proofs.lemmas.Result.{err_from_is_err_and}
+use Rattle.errno.specs.declared.Errno.TheVariants.{Einval}
+use Rattle.rules.specs.State.{State}
+use Rattle.rules.specs.Commands.{close_device, with_device, with_open}
+use Rattle.layout.specs.Layout.{device_in, state_in, put_open}
+use Rattle.layout.proofs.Laws.{refused_carried, done_carried, read_open}
+use Rattle.devices.specs.Effects.{closed}
+use Rattle.devices.proofs.Laws.{check_refused, check_passed}
 use Rattle.devices.proofs.close.Goals as goal
 
+-- the state with the device at a slot not open
+abbrev next : List ℕ → List ℕ → ℕ → State
+next ws qs k = with_device k (with_open false (device_in ws k)) (state_in ws qs)
+
+pub returns-in_err-slot : goal.returns-in_err-slot
+unfolding close_device state_in
+returns-in_err-slot c =
+    let a = c.args in
+    let p = err_from_is_err_and c.from_residual.result c.from_residual.ensures.1 in
+    rw p.1
+    (refused_carried (close_device a.id) (closed a.id) a.words.now p.0
+    (λ qs. check_refused a.id true Einval a.words.now qs (next a.words.now qs) (rw p.2 c.in_err-slot.ensures)))
+
 pub returns : goal.returns
-unfolding close_device changing changed
-returns c = c.change.ensures
+unfolding close_device state_in
+returns c =
+    let a = c.args in
+    let ws = a.words.now in
+    let passed = λ (qs : List ℕ). check_passed a.id true Einval ws qs (next ws qs) c.in_ok-slot.ensures in
+    let at = (passed ws).1 in
+    let put : ℕ → List ℕ = λ k. put_open ws k false in
+    done_carried (close_device a.id) (closed a.id) ws (λ qs. next ws qs c.in_ok-slot.slot) (c.put_open.ensures ∙ ap put at) (λ qs. (passed qs).2)
+    (λ qs. ap (λ (k : ℕ). state_in (put k) qs) (sym at) ∙ read_open ws qs c.in_ok-slot.slot c.hold_words.ensures.long (passed ws).0 false)

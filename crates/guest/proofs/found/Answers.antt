@@ -8,9 +8,7 @@ use Rattle.layout.proofs.Laws.{cond_below, cond_past}
 use Rattle.guest.proofs.found.Goals as goal
 
 pub returns-then-slot-lt-SLOTS : goal.returns-then-slot-lt-SLOTS
-unfolding answered
 returns-then-slot-lt-SLOTS c = sym (cond_below c.args.slot slots 0 (number_of Enoent) c.if-slot-lt-SLOTS.true)
 
 pub returns : goal.returns
-unfolding answered
 returns c = sym (cond_past c.args.slot slots 0 (number_of Enoent) c.if-slot-lt-SLOTS.false)

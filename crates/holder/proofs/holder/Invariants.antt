@@ -1,5 +1,5 @@
 -- `holder` meets its contract. The loop's invariant: the first of the slots left is the answer.
-use Prim.Native.Nat.{ℕ, ◌-◌, ◌≤◌}
+use Prim.Native.Nat.{ℕ, ◌-◌}
 use mathlib.Core.List.{List}
 use mathlib.Core.Path.{◌≡◌}
 use Rattle.mask.specs.Bits.{Bits}
@@ -16,7 +16,4 @@ abbrev pub here : Apid → Apqi → List ℕ → Bits
 here a d ws j = product (device_in ws j) (apqn a d)
 
 abbrev pub invariant-loop-slot : goal.invariant-loop-slot
-invariant-loop-slot l = (l.slot ≤ 8) × (holder_of (device_in l.words) (apqn l.adapter l.domain) ≡ first_from (8 - l.slot) l.slot (here l.adapter l.domain l.words))
-
-abbrev pub decreases-loop-slot : goal.decreases-loop-slot
-decreases-loop-slot l = 8 - l.slot
+invariant-loop-slot l = holder_of (device_in l.words) (apqn l.adapter l.domain) ≡ first_from (8 - l.slot) l.slot (here l.adapter l.domain l.words)

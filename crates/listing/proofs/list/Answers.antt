@@ -30,7 +30,6 @@ returns-then-buf-lt-LINE c =
     c.refused-then-buf-lt-LINE.ensures.2
 
 pub returns : goal.returns
-unfolding answered
 returns c =
     let w = c.write-r in
     let p = c in

@@ -6,7 +6,6 @@ use Rattle.listing.proofs.refused.Statement.{statement}
 use Rattle.listing.proofs.refused.Tie as tie
 
 returns : tie.Need-returns
-unfolding answered
 returns c = search rules
 
 pub refused_spec : {M : Type 1} → statement M

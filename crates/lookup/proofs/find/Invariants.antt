@@ -1,8 +1,5 @@
 -- `find` meets its contract. The loop's invariant: the first of the slots left is the answer.
-use Prim.Native.Nat.{ℕ, ◌-◌, ◌≤◌}
-use mathlib.Core.List.{List}
-use mathlib.Core.Bool.{◌&&◌}
-use mathlib.Core.Path.{◌≡◌}
+use Rattle.std.proofs.Common.{ℕ, ◌-◌, ◌&&◌, ◌≡◌, List}
 use Rattle.mask.specs.Bits.{Bits}
 use Rattle.rules.specs.declared.Id.{Id}
 use Rattle.rules.specs.Commands.{first_from, slot_of, same_id}
@@ -14,7 +11,4 @@ abbrev pub here : Id → List ℕ → Bits
 here i ws j = (device_in ws j).present && same_id i (device_in ws j).id
 
 abbrev pub invariant-loop-slot : goal.invariant-loop-slot
-invariant-loop-slot l = (l.slot ≤ 8) × (slot_of l.id (device_in l.words) ≡ first_from (8 - l.slot) l.slot (here l.id l.words))
-
-abbrev pub decreases-loop-slot : goal.decreases-loop-slot
-decreases-loop-slot l = 8 - l.slot
+invariant-loop-slot l = slot_of l.id (device_in l.words) ≡ first_from (8 - l.slot) l.slot (here l.id l.words)

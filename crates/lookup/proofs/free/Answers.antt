@@ -1,30 +1,28 @@
--- `free` meets its contract. The loop's invariant: the first of the slots left is the answer.
-use native.Mathlib.Omega.{arith}
-use mathlib.Core.Bool.{not}
-use mathlib.Core.Path.{refl, sym, ap, ◌∙◌}
+-- `free` meets its contract.
+use Rattle.std.proofs.Common.{arith, refl, sym, ap, not, ◌≡◌, ◌∙◌}
 use Rattle.rules.specs.Commands.{free_slot}
-use Rattle.rules.proofs.First.{turn_here, turn_next, turn_end}
+use Rattle.rules.proofs.First.{turn_here, turn_next, turn_end, found_at, found_none}
 use Rattle.lookup.proofs.free.Invariants.{empty}
 use Rattle.lookup.proofs.free.Goals as goal
 
 pub loop-at-init : goal.loop-at-init
 unfolding free_slot
-loop-at-init c = (omega arith, refl)
+loop-at-init c = refl
 
 pub returns-then-not-occupied : goal.returns-then-not-occupied
 returns-then-not-occupied c =
     let a = c.args in
     let l = c.loop-at in
-    sym (l.invariant.1 ∙ turn_here 8 l.at (empty a.words.now) (omega arith) (ap not (sym c.occupied.ensures ∙ c.if-not-occupied.true)))
+    found_at (omega arith) (l.invariant ∙ turn_here 8 l.at (empty a.words.now) (omega arith) (ap not (sym c.occupied.ensures ∙ c.if-not-occupied.true)))
 
 pub loop-at-preserved : goal.loop-at-preserved
 loop-at-preserved c =
     let a = c.args in
     let l = c.loop-at in
-    (omega arith, l.invariant.1 ∙ turn_next 8 l.at (empty a.words.now) (omega arith) (ap not (sym c.occupied.ensures ∙ c.if-not-occupied.false)))
+    l.invariant ∙ turn_next 8 l.at (empty a.words.now) (omega arith) (ap not (sym c.occupied.ensures ∙ c.if-not-occupied.false))
 
 pub returns : goal.returns
 returns c =
     let a = c.args in
     let l = c.loop-at in
-    sym (l.invariant.1 ∙ turn_end 8 l.at (empty a.words.now) (omega arith))
+    found_none (l.invariant ∙ turn_end 8 l.at (empty a.words.now) (omega arith)) (omega arith)

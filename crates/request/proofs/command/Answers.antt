@@ -6,10 +6,9 @@ use Rattle.model.specs.Steps.{configure, rule}
 use Rattle.calls.specs.Calls.{effect, creates, removes, opens, closes, assigns, unassigns, sets_apmask, sets_aqmask, configures}
 use Rattle.encoding.specs.Encoding.{command, command_of}
 use Rattle.request.specs.Requests.{Stepped}
-use Rattle.rules.specs.declared.Answer.{Answer}
 use Rattle.rules.specs.declared.Id.{Id}
 use Rattle.rules.specs.declared.Kind.{Kind}
-use Rattle.rules.specs.Commands.{answered}
+use Rattle.rules.specs.Commands.{Answer, answered}
 use Rattle.rules.specs.Commands as Commands
 use Rattle.layout.specs.Carried.{CarriedWords, memory}
 use Rattle.assign.specs.Numbers.{Assigning, unassigned}

@@ -12,16 +12,14 @@ use Rattle.setup.proofs.clear_slots.Goals as goal
 pub loop-slot-preserved : goal.loop-slot-preserved
 unfolding clear_slots
 loop-slot-preserved c =
-    let l = c.loop-slot in (
-      omega arith,
-      c.put_device.ensures ∙ ap (λ (ws : List ℕ). put_device ws l.slot false no_id) l.invariant.1 ∙ ap (clear_slots c.args.words.now) (sym (add-one l.slot)),
-    )
+    let l = c.loop-slot in
+    c.put_device.ensures ∙ ap (λ (ws : List ℕ). put_device ws l.slot false no_id) l.invariant ∙ ap (clear_slots c.args.words.now) (sym (add-one l.slot))
 
 pub returns : goal.returns
 returns c =
     let e : c.loop-slot.slot ≡ slots = omega arith in
-    c.loop-slot.invariant.1 ∙ ap (clear_slots c.args.words.now) e
+    c.loop-slot.invariant ∙ ap (clear_slots c.args.words.now) e
 
 pub loop-slot-init : goal.loop-slot-init
 unfolding clear_slots
-loop-slot-init c = (omega arith, refl)
+loop-slot-init c = refl
