@@ -2,32 +2,40 @@
 -- Assumes nothing.
 use Prim.Native.Nat.{ℕ, ◌+◌, ◌≤◌, ◌<◌}
 use native.Mathlib.Omega.{arith}
-use mathlib.Core.Bool.{Bool, true, false, cond, true≢false}
+use mathlib.Core.Bool.{Bool, true, false, cond}
 use mathlib.Core.List.{List, [], ◌∷◌}
-use mathlib.Core.Path.{◌≡◌, sym, ap, subst, ◌∙◌}
+use mathlib.Core.Path.{◌≡◌, sym, ap, ◌∙◌}
 use lib.ListN.{length, drop}
 use borrow.Author.Tests.{ne_eqb}
 use Rattle.errno.specs.Outcome.{Outcome, granted, refused}
+use Rattle.errno.specs.declared.Errno.{Errno}
 use Rattle.errno.specs.declared.Errno.TheVariants.{Einval}
 use Rattle.mask.specs.declared.Mask.{Mask}
 use Rattle.mask.specs.Bits.{Sized, Bits, bits, no_bits}
 use Rattle.mask.proofs.Laws.{numbers_of_bits}
+use Rattle.digits.specs.Digits.{starts_hex}
+use Rattle.masktext.specs.Text.{mask_text}
 use Rattle.rules.specs.declared.Configuration.{Configuration}
 use Rattle.split.specs.Cut.{cut, end_from, piece_from}
 use Rattle.split.proofs.Laws.{cut_next, cut_end, cut_some, cut_one, cut_two, cut_three}
 use Rattle.hexbytes.specs.HexBytes.{types_text}
-use Rattle.configtext.specs.declared.ConfigRead.{ConfigRead}
-use Rattle.configtext.specs.ConfigText.{when_good, hex_text, mask_with, four_text, config_text, config_read, Reads}
+use Rattle.configtext.specs.ConfigText.{when_good, hex_text, mask_with, four_text, config_text}
 
 -- a mask is the one with its bits
 pub mask_is : (m : Mask) → Sized 64 4 m.words → m ≡ mask_with (bits m)
 mask_is m h = ap (λ (ws : List ℕ). record { words = ws }) (sym (numbers_of_bits (omega arith) h))
 
--- a mask with no bits
-pub mask_none : (m : Mask) → Sized 64 4 m.words → bits m ≡ no_bits → m ≡ mask_with no_bits
-mask_none m h e = mask_is m h ∙ ap mask_with e
-
 -- ---- one word
+
+-- a word in the hex form, and one in another
+pub hex_is : (w : List ℕ) {b : Bool} {old : Bits} → b ≡ starts_hex w → b ≡ true → old ≡ no_bits → mask_text w old ≡ hex_text w
+unfolding hex_text
+hex_is w e h n =
+    ap (mask_text w) n ∙ sym (ap (λ (t : Bool). cond t (mask_text w no_bits) (refused Einval)) (sym e ∙ h))
+
+pub hex_not : (w : List ℕ) {b : Bool} → b ≡ starts_hex w → b ≡ false → refused Einval ≡ hex_text w
+unfolding hex_text
+hex_not w e h = sym (ap (λ (t : Bool). cond t (mask_text w no_bits) (refused Einval)) (sym e ∙ h))
 
 -- an answer that has its outcome beside it
 module _ {A : Type 0} (g : Bool) (x : A) {o : Outcome A} (e : cond g (granted x) (refused Einval) ≡ o) where
@@ -39,42 +47,36 @@ module _ {A : Type 0} (g : Bool) (x : A) {o : Outcome A} (e : cond g (granted x)
 
 -- ---- four words, judged from the left
 
--- bad text
-pub reads_bad : {o : Outcome Configuration} {r : ConfigRead} → o ≡ refused Einval → Reads (refused Einval) r → Reads o r
-reads_bad {o} {r} e h = subst (λ (x : Outcome Configuration). Reads x r) (sym e) h
-
 -- the words that were handed on
-pub reads_as : {o : Outcome Configuration} {a d c t a' d' c' t' : List ℕ} {r : ConfigRead} → o ≡ four_text a d c t → a' ≡ a → d' ≡ d → c' ≡ c → t' ≡ t
-    → Reads (four_text a' d' c' t') r → Reads o r
-reads_as {r = r} e ea ed ec et h = subst (λ (x : Outcome Configuration). Reads x r) ((λ i. four_text (ea i) (ed i) (ec i) (et i)) ∙ sym e) h
+pub reads_as : {o x : Outcome Configuration} {a d c t a' d' c' t' : List ℕ} → o ≡ four_text a d c t → a' ≡ a → d' ≡ d → c' ≡ c → t' ≡ t
+    → x ≡ four_text a' d' c' t' → x ≡ o
+reads_as e ea ed ec et h = h ∙ (λ i. four_text (ea i) (ed i) (ec i) (et i)) ∙ sym e
 
 module _ (a d c t : List ℕ) where
-  pub first_bad : hex_text a ≡ refused Einval → four_text a d c t ≡ refused Einval
+  pub first_bad : {n : Errno} → refused n ≡ hex_text a → refused n ≡ four_text a d c t
   unfolding four_text when_good
-  first_bad e = rw e
+  first_bad e = sym (rw (sym e))
 
-  pub second_bad : {x : Bits} → hex_text a ≡ granted x → hex_text d ≡ refused Einval → four_text a d c t ≡ refused Einval
+  pub second_bad : {x : Bits} {n : Errno} → granted x ≡ hex_text a → refused n ≡ hex_text d → refused n ≡ four_text a d c t
   unfolding four_text when_good
-  second_bad e f = rw (e, f)
+  second_bad e f = sym (rw (sym e, sym f))
 
-  pub third_bad : {x y : Bits} → hex_text a ≡ granted x → hex_text d ≡ granted y → hex_text c ≡ refused Einval → four_text a d c t ≡ refused Einval
+  pub third_bad : {x y : Bits} {n : Errno} → granted x ≡ hex_text a → granted y ≡ hex_text d → refused n ≡ hex_text c → refused n ≡ four_text a d c t
   unfolding four_text when_good
-  third_bad e f g = rw (e, f, g)
+  third_bad e f g = sym (rw (sym e, sym f, sym g))
 
-  pub fourth_bad : {x y z : Bits} → hex_text a ≡ granted x → hex_text d ≡ granted y → hex_text c ≡ granted z → types_text t ≡ refused Einval
-      → four_text a d c t ≡ refused Einval
+  pub fourth_bad : {x y z : Bits} {n : Errno} → granted x ≡ hex_text a → granted y ≡ hex_text d → granted z ≡ hex_text c → refused n ≡ types_text t
+      → refused n ≡ four_text a d c t
   unfolding four_text when_good
-  fourth_bad e f g h = rw (e, f, g, h)
+  fourth_bad e f g h = sym (rw (sym e, sym f, sym g, sym h))
 
-  pub all_good : (x y z : Mask) {ts : List ℕ} → hex_text a ≡ granted (bits x) → hex_text d ≡ granted (bits y) → hex_text c ≡ granted (bits z)
-      → types_text t ≡ granted ts → Sized 64 4 x.words → Sized 64 4 y.words → Sized 64 4 z.words
-      → Reads (four_text a d c t) (record { good = true; configuration = record { adapters = x; domains = y; controls = z; types = ts } })
-  unfolding four_text when_good config_read
+  pub all_good : (x y z : Mask) {ts : List ℕ} → granted (bits x) ≡ hex_text a → granted (bits y) ≡ hex_text d → granted (bits z) ≡ hex_text c
+      → granted ts ≡ types_text t → Sized 64 4 x.words → Sized 64 4 y.words → Sized 64 4 z.words
+      → granted (record { adapters = x; domains = y; controls = z; types = ts }) ≡ four_text a d c t
+  unfolding four_text when_good
   all_good x y z {ts} e f g h hx hy hz =
-      record {
-        is = ap granted (λ i. record { adapters = mask_is x hx i; domains = mask_is y hy i; controls = mask_is z hz i; types = ts }) ∙ sym (rw (e, f, g, h));
-        empty = λ q. absurd (true≢false q);
-      }
+      ap granted (λ i. record { adapters = mask_is x hx i; domains = mask_is y hy i; controls = mask_is z hz i; types = ts })
+      ∙ sym (rw (sym e, sym f, sym g, sym h))
 
 -- ---- how many words
 

@@ -1,15 +1,15 @@
 -- The configuration of a console line (RULES.md, "Console"): three masks in hex, then two hex digits for each adapter's type.
 -- Assumes nothing.
-use Rattle.std.specs.Prelude.{ℕ, false, cond, List, [], ◌∷◌, ◌≡◌, eqb, length, get_or}
+use Rattle.std.specs.Prelude.{ℕ, cond, List, [], eqb, length, get_or, Result, Ok, Err}
 use Rattle.errno.specs.Outcome.{Outcome, granted, refused}
+use Rattle.errno.specs.declared.Errno.{Errno}
 use Rattle.errno.specs.declared.Errno.TheVariants.{Einval}
 use Rattle.mask.specs.declared.Mask.{Mask}
-use Rattle.mask.specs.Bits.{Bits, no_bits, numbers}
+use Rattle.mask.specs.Bits.{Bits, bits, no_bits, numbers}
 use Rattle.digits.specs.Digits.{starts_hex}
 use Rattle.masktext.specs.Text.{mask_text}
 use Rattle.rules.specs.declared.Configuration.{Configuration}
-use Rattle.hexbytes.specs.HexBytes.{types_text, no_types}
-use Rattle.configtext.specs.declared.ConfigRead.{ConfigRead}
+use Rattle.hexbytes.specs.HexBytes.{types_text}
 
 -- what comes of good text; after bad text nothing more is read
 unfoldable pub when_good : {A B : Type 0} → Outcome A → (A → Outcome B) → Outcome B
@@ -19,6 +19,11 @@ when_good (refused e) next = refused e
 -- a mask in its hex form alone
 unfoldable pub hex_text : List ℕ → Outcome Bits
 hex_text w = cond (starts_hex w) (mask_text w no_bits) (refused Einval)
+
+-- what a mask's reading comes to
+unfoldable pub mask_outcome : Result Mask Errno → Outcome Bits
+mask_outcome (Ok m) = granted (bits m)
+mask_outcome (Err e) = refused e
 
 -- the mask with some bits
 abbrev pub mask_with : Bits → Mask
@@ -33,16 +38,3 @@ four_text a d c t =
 -- the words of a configuration are four
 unfoldable pub config_text : List (List ℕ) → Outcome Configuration
 config_text ws = cond (eqb (length ws) 4) (four_text (get_or ws 0 []) (get_or ws 1 []) (get_or ws 2 []) (get_or ws 3 [])) (refused Einval)
-
--- what an answer comes to
-unfoldable pub config_read : ConfigRead → Outcome Configuration
-config_read r = cond r.good (granted r.configuration) (refused Einval)
-
--- the configuration beside bad text: nothing is configured
-abbrev pub no_config : Configuration
-no_config = record { adapters = mask_with no_bits; domains = mask_with no_bits; controls = mask_with no_bits; types = no_types }
-
--- what is read of a text: the configuration, or bad text with an empty one beside it
-pub record Reads (text : Outcome Configuration) (r : ConfigRead) : Type 0 where
-  pub is : config_read r ≡ text
-  pub empty : r.good ≡ false → r.configuration ≡ no_config

@@ -2,7 +2,7 @@
 -- Assumes nothing.
 use Prim.Native.Nat.{ℕ, suc, ◌+◌, ◌*◌, ◌≤◌, ◌<◌}
 use native.Mathlib.Omega.{arith}
-use mathlib.Core.Bool.{Bool, true, false, cond, ◌&&◌, true≢false}
+use mathlib.Core.Bool.{Bool, true, false, cond, ◌&&◌}
 use mathlib.Core.List.{List, [], ◌∷◌, ◌++◌, append-nil}
 use mathlib.Core.Path.{◌≡◌, refl, sym, ap, ap₂, ◌∙◌}
 use lib.Dec.{ltb}
@@ -10,29 +10,36 @@ use lib.ListN.{length, get_or, set, take, drop, drop_of_length-le, length-set}
 use lib.Seq.{drop-cons, append_snoc, take-suc-set, take_all}
 use borrow.Author.Tests.{eq-eqb, ne_eqb, lt-ltb, le-ltb}
 use Rattle.errno.specs.Outcome.{granted, refused}
+use Rattle.errno.specs.declared.Errno.{Errno}
 use Rattle.errno.specs.declared.Errno.TheVariants.{Einval}
+use Rattle.rules.specs.declared.Id.{Id}
+use Rattle.fields.specs.Fields.{id_of}
 use Rattle.digits.specs.Digits.{digit_of}
 use Rattle.masktext.specs.Text.{all_hex}
-use Rattle.hexbytes.specs.HexBytes.{byte_pairs, is_hex, no_types, Fills}
+use Rattle.hexbytes.specs.HexBytes.{byte_pairs, is_hex, bytes_text, id_text}
 
--- what is found of a text up to byte i of a buffer
-pub record Sofar (s before out : List ℕ) (i : ℕ) : Type 0 where
-  pub within : i ≤ length before
-  pub long : length out ≡ length before
-  pub twice : length s ≡ 2 * length before
+-- what is found of a text up to byte i of n
+pub record Sofar (s out : List ℕ) (n i : ℕ) : Type 0 where
+  pub within : i ≤ n
+  pub long : length out ≡ n
+  pub twice : length s ≡ 2 * n
   pub hex : all_hex s ≡ all_hex (drop (2 * i) s)
   pub bytes : byte_pairs s ≡ take i out ++ byte_pairs (drop (2 * i) s)
 
+-- by whether a text is n bytes in hex
+by_hex : (n : ℕ) (s : List ℕ) {b : Bool} → is_hex n s ≡ b → bytes_text n s ≡ cond b (granted (byte_pairs s)) (refused Einval)
+unfolding bytes_text
+by_hex n s e = ap (λ (b : Bool). cond b (granted (byte_pairs s)) (refused Einval)) e
+
 -- a text of another length
-pub other_length : (s before : List ℕ) → (length s ≡ 2 * length before → ⊥) → Fills s before before false
+pub other_length : (s : List ℕ) (n : ℕ) → (length s ≡ 2 * n → ⊥) → refused Einval ≡ bytes_text n s
 unfolding is_hex
-other_length s before h =
-    record { good = sym (ap (λ (b : Bool). b && all_hex s) (ne_eqb (length s) (2 * length before) h)); bytes = λ e. absurd (true≢false (sym e)) }
+other_length s n h = sym (by_hex n s (ap (λ (b : Bool). b && all_hex s) (ne_eqb (length s) (2 * n) h)))
 
-pub starts : (s before : List ℕ) → length s ≡ 2 * length before → Sofar s before before 0
-starts s before h = record { within = omega arith; long = refl; twice = h; hex = refl; bytes = refl }
+pub starts : (s out : List ℕ) {n : ℕ} → length out ≡ n → length s ≡ 2 * n → Sofar s out n 0
+starts s out l h = record { within = omega arith; long = l; twice = h; hex = refl; bytes = refl }
 
-module _ {s before out : List ℕ} {i : ℕ} (g : Sofar s before out i) (h : i < length before) where
+module _ {s out : List ℕ} {n i : ℕ} (g : Sofar s out n i) (h : i < n) where
   -- the two digits at byte i
   abbrev high : ℕ
   high = get_or s (2 * i) 0
@@ -48,27 +55,23 @@ module _ {s before out : List ℕ} {i : ℕ} (g : Sofar s before out i) (h : i <
       ∙ ap (λ (l : List ℕ). high ∷ l) (drop-cons s (2 * i + 1) 0 (omega (arith, g.twice)) ∙ ap (λ (k : ℕ). low ∷ drop k s) last)
 
   -- a byte that is no digit
-  bad : all_hex (drop (2 * i) s) ≡ false → Fills s before out false
+  bad : all_hex (drop (2 * i) s) ≡ false → refused Einval ≡ bytes_text n s
   unfolding is_hex
-  bad e =
-      record {
-        good = sym (ap₂ ◌&&◌ (eq-eqb (length s) (2 * length before) g.twice) (g.hex ∙ e));
-        bytes = λ f. absurd (true≢false (sym f));
-      }
+  bad e = sym (by_hex n s (ap₂ ◌&&◌ (eq-eqb (length s) (2 * n) g.twice) (g.hex ∙ e)))
 
-  pub bad_high : {x : ℕ} → x ≡ digit_of high → 15 < x → Fills s before out false
+  pub bad_high : {x : ℕ} → x ≡ digit_of high → 15 < x → refused Einval ≡ bytes_text n s
   unfolding all_hex
-  bad_high e n = bad (ap all_hex two ∙ ap (λ (b : Bool). b && (ltb (digit_of low) 16 && all_hex (drop (2 * (i + 1)) s))) (le-ltb (digit_of high) 16 (omega arith)))
+  bad_high e m = bad (ap all_hex two ∙ ap (λ (b : Bool). b && (ltb (digit_of low) 16 && all_hex (drop (2 * (i + 1)) s))) (le-ltb (digit_of high) 16 (omega arith)))
 
-  pub bad_low : {x y : ℕ} → x ≡ digit_of high → y ≡ digit_of low → x ≤ 15 → 15 < y → Fills s before out false
+  pub bad_low : {x y : ℕ} → x ≡ digit_of high → y ≡ digit_of low → x ≤ 15 → 15 < y → refused Einval ≡ bytes_text n s
   unfolding all_hex
-  bad_low e f m n =
+  bad_low e f m k =
       bad (ap all_hex two ∙ ap₂ (λ (a b : Bool). a && (b && all_hex (drop (2 * (i + 1)) s))) (lt-ltb (digit_of high) 16 (omega arith)) (le-ltb (digit_of low) 16 (omega arith)))
 
   -- one byte more
-  pub goes_on : {x y : ℕ} → x ≡ digit_of high → y ≡ digit_of low → x ≤ 15 → y ≤ 15 → Sofar s before (set out i (x * 16 + y)) (i + 1)
+  pub goes_on : {x y : ℕ} → x ≡ digit_of high → y ≡ digit_of low → x ≤ 15 → y ≤ 15 → Sofar s (set out i (x * 16 + y)) n (i + 1)
   unfolding all_hex byte_pairs
-  goes_on {x} {y} e f m n =
+  goes_on {x} {y} e f m k =
       let rest = drop (2 * (i + 1)) s in
       let byte = x * 16 + y in
       let next : suc i ≡ i + 1 = omega arith in
@@ -84,30 +87,28 @@ module _ {s before out : List ℕ} {i : ℕ} (g : Sofar s before out i) (h : i <
             ∙ ap (λ (j : ℕ). take j (set out i byte) ++ byte_pairs rest) next;
       }
 
--- the buffer is full
-pub full : {s before out : List ℕ} {i : ℕ} → Sofar s before out i → length before ≤ i → Fills s before out true
+-- all n bytes are found
+pub full : {s out : List ℕ} {n i : ℕ} → Sofar s out n i → n ≤ i → granted out ≡ bytes_text n s
 unfolding is_hex all_hex byte_pairs
-full {s} {before} {out} {i} g h =
+full {s} {out} {n} {i} g h =
     let none : drop (2 * i) s ≡ [] = drop_of_length-le s {i = 2 * i} (omega (arith, g.twice)) in
-    record {
-      good = sym (ap₂ ◌&&◌ (eq-eqb (length s) (2 * length before) g.twice) (g.hex ∙ ap all_hex none));
-      bytes = λ e. sym (g.bytes ∙ ap (λ (l : List ℕ). take i out ++ byte_pairs l) none ∙ append-nil (take i out)
-          ∙ take_all i out (omega (arith, g.long)));
-    }
+    let is : byte_pairs s ≡ out = g.bytes ∙ ap (λ (l : List ℕ). take i out ++ byte_pairs l) none ∙ append-nil (take i out) ∙ take_all i out (omega (arith, g.long)) in
+    ap granted (sym is) ∙ sym (by_hex n s (ap₂ ◌&&◌ (eq-eqb (length s) (2 * n) g.twice) (g.hex ∙ ap all_hex none)))
 
--- ---- what comes of a buffer that was filled, or not
+-- what comes of the bytes of an id, and of none
+module _ (s : List ℕ) {bytes : List ℕ} {x : Id} (e : x ≡ id_of bytes) where
+  pub id_good : granted bytes ≡ bytes_text 16 s → granted x ≡ id_text s
+  unfolding bytes_text id_text
+  id_good h = go (is_hex 16 s) h
+    where
+      go : (b : Bool) → granted bytes ≡ cond b (granted (byte_pairs s)) (refused Einval) → granted x ≡ cond b (granted (id_of (byte_pairs s))) (refused Einval)
+      go true q = cc
+      go false q = cc
 
-module _ {A : Type 0} (f : List ℕ → A) (n : ℕ) {s before after : List ℕ} {b : Bool} (g : Fills s before after b) (l : n ≡ length before) where
-  is_hex_lem : is_hex n s ≡ b
-  is_hex_lem = ap (λ (k : ℕ). is_hex k s) l ∙ sym g.good
-
-  pub read_good : {x : A} → b ≡ true → x ≡ f after → granted x ≡ cond (is_hex n s) (granted (f (byte_pairs s))) (refused Einval)
-  read_good {x} e q =
-      ap granted (q ∙ ap f (g.bytes e)) ∙ sym (ap (λ (t : Bool). cond t (granted (f (byte_pairs s))) (refused Einval)) (is_hex_lem ∙ e))
-
-  pub read_bad : b ≡ false → refused Einval ≡ cond (is_hex n s) (granted (f (byte_pairs s))) (refused Einval)
-  read_bad e = sym (ap (λ (t : Bool). cond t (granted (f (byte_pairs s))) (refused Einval)) (is_hex_lem ∙ e))
-
-pub none_long : {types : List ℕ} → types ≡ no_types → 256 ≡ length types
-unfolding no_types
-none_long e = sym (ap length e)
+pub id_bad : (s : List ℕ) (e : Errno) → refused e ≡ bytes_text 16 s → refused e ≡ id_text s
+unfolding bytes_text id_text
+id_bad s e h = go (is_hex 16 s) h
+  where
+    go : (b : Bool) → refused e ≡ cond b (granted (byte_pairs s)) (refused Einval) → refused e ≡ cond b (granted (id_of (byte_pairs s))) (refused Einval)
+    go true q = cc
+    go false q = cc

@@ -3,86 +3,51 @@
 // Rests on errno, digits, masktext, rules and fields.
 #![tactic(auto)]
 
-ghost use Rattle.std.specs.Prelude.{◌≡◌, false};
-ghost use Rattle.hexbytes.specs.HexBytes.{id_text, types_text, id_read, types_read, no_id, no_types, Fills};
+ghost use Rattle.std.specs.Prelude.{◌≡◌};
+ghost use Rattle.errno.specs.Outcome.{outcome};
+ghost use Rattle.hexbytes.specs.HexBytes.{bytes_text, id_text, types_text};
 
+use errno::Errno;
 use fields::ID_BYTES;
 use rules::Id;
 
-// What reading an id finds: the id, or zeros where the text is bad.
-#[derive(Clone, Copy)]
-pub struct IdRead {
-    pub good: bool,
-    pub id: Id,
-}
-
-// What reading hardware types finds: the types, or zeros where the text is bad.
-#[derive(Clone, Copy)]
-pub struct TypesRead {
-    pub good: bool,
-    pub types: [u8; 256],
-}
-
 // An id: 32 hex digits.
-pub fn id(s: &[u8]) -> IdRead
-    ensures result_value { id_read result ≡ id_text s.now }
-    ensures id_value { result.good ≡ false → result.id ≡ no_id }
+pub fn id(s: &[u8]) -> Result<Id, Errno>
+    ensures { outcome result ≡ id_text s.now }
 {
-    let mut bytes = [0u8; ID_BYTES];
-    if fill(s, &mut bytes) {
-        let id = fields::id_of(&bytes);
-        return IdRead { good: true, id };
-    }
-    IdRead {
-        good: false,
-        id: Id { hi: 0, lo: 0 },
-    }
+    let bytes = bytes::<ID_BYTES>(s)?;
+    Ok(fields::id_of(&bytes))
 }
 
 // The hardware types of 256 adapters: 512 hex digits.
-pub fn types(s: &[u8]) -> TypesRead
-    ensures result_value { types_read result ≡ types_text s.now }
-    ensures types_value { result.good ≡ false → result.types ≡ no_types }
+pub fn types(s: &[u8]) -> Result<[u8; 256], Errno>
+    ensures { outcome result ≡ types_text s.now }
 {
-    let mut types = no_types();
-    if fill(s, &mut types) {
-        return TypesRead { good: true, types };
-    }
-    TypesRead {
-        good: false,
-        types: no_types(),
-    }
+    bytes::<256>(s)
 }
 
-pub fn no_types() -> [u8; 256]
-    ensures { result ≡ no_types }
+// The bytes that the digits stand for, where they are as many as N bytes take.
+fn bytes<const N: usize>(s: &[u8]) -> Result<[u8; N], Errno>
+    ensures { outcome result ≡ bytes_text N s.now }
 {
-    [0u8; 256]
-}
-
-// Fills a buffer with the bytes that the digits stand for, and answers whether they are as many as it takes.
-fn fill(s: &[u8], out: &mut [u8]) -> bool
-    ensures { Fills s.now out.old out.new result }
-{
-    if s.len() / 2 != out.len() {
-        return false;
+    if s.len() / 2 != N {
+        return Err(Errno::Einval);
     }
     if s.len() % 2 != 0 {
-        return false;
+        return Err(Errno::Einval);
     }
-    let mut i = 0usize;
-    while i < out.len() {
+    let mut out = [0u8; N];
+    for (i, byte) in out.iter_mut().enumerate() {
         // Each digit is judged before the next is read: compilers then leave the test out for 0 to 9.
         let high = digits::digit_of(s[2 * i]);
         if 15 < high {
-            return false;
+            return Err(Errno::Einval);
         }
         let low = digits::digit_of(s[2 * i + 1]);
         if 15 < low {
-            return false;
+            return Err(Errno::Einval);
         }
-        out[i] = high * 16 + low;
-        i += 1;
+        *byte = high * 16 + low;
     }
-    true
+    Ok(out)
 }

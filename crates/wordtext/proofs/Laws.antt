@@ -1,52 +1,35 @@
 -- Words compared, and the first of some tests that holds.
 -- Assumes nothing.
-use Prim.Native.Nat.{ℕ, suc, ◌+◌, ◌%◌, ◌≤◌, ◌<◌}
+use Prim.Native.Nat.{ℕ, ◌<◌}
+use Prim.Native.String.{String}
 use native.Mathlib.Omega.{arith}
 use mathlib.Core.Bool.{Bool, true, false, cond, ◌&&◌}
 use mathlib.Core.List.{List, [], ◌∷◌}
 use mathlib.Core.Path.{◌≡◌, refl, sym, ap, ◌∙◌}
 use lib.Dec.{eqb}
-use lib.ListN.{length, get_or, drop, drop_of_length-le}
-use lib.Seq.{drop-cons}
-use borrow.Author.Tests.{eq-eqb, ne_eqb, le-leb, lt-leb}
-use Rattle.errno.specs.Outcome.{granted}
+use lib.Pointwise.{pointwise}
+use borrow.Author.Tests.{le-leb, lt-leb}
+use Rattle.errno.specs.Ascii.{ascii}
+use Rattle.std.specs.Prelude.{Result, Ok, Err}
+use Rattle.std.specs.Result.{OkIff, result_or}
+use Rattle.std.proofs.lemmas.Result.{OkIff-at_ok, OkIff-at_err}
+use Rattle.errno.specs.Outcome.{granted, outcome}
+use Rattle.errno.specs.declared.Errno.TheVariants.{Einval}
 use Rattle.number.specs.Text.{at_most}
-use Rattle.wordtext.specs.Words.{same, bad}
+use Rattle.wordtext.specs.Words.{same, is}
 
 -- ---- equal bytes
 
-same_length : (w v : List ℕ) → (length w ≡ length v → ⊥) → same w v ≡ false
+-- what a comparison of a word with a name says
+pub is_word : {b : Bool} (w : List ℕ) {bytes : List ℕ} (name : String) → b ≡ pointwise eqb w bytes → bytes ≡ ascii name → is w name ≡ b
 unfolding same
-same_length [] [] h = absurd (h refl)
-same_length [] (y ∷ ys) h = refl
-same_length (x ∷ xs) [] h = refl
-same_length (x ∷ xs) (y ∷ ys) h = go (eqb x y) (same_length xs ys (λ e. h (ap suc e)))
+is_word {b} w {bytes} name e n = ap (same w) (sym n) ∙ go w bytes ∙ sym e
   where
-    go : (b : Bool) → same xs ys ≡ false → (b && same xs ys) ≡ false
-    go true e = e
-    go false e = refl
-
-pub other_length : (w v : List ℕ) → (length w ≡ length v → ⊥) → false ≡ same w v
-other_length w v h = sym (same_length w v h)
-
--- byte i of two words of one length
-module _ (w v : List ℕ) (i : ℕ) (n : length w ≡ length v) (h : i < length w) where
-  byte : same (drop i w) (drop i v) ≡ (eqb (get_or w i 0) (get_or v i 0) && same (drop (i + 1) w) (drop (i + 1) v))
-  unfolding same
-  byte =
-      let next : suc i ≡ i + 1 = omega arith in
-      (λ j. same (drop-cons w i 0 h j) (drop-cons v i 0 (omega arith) j))
-      ∙ ap (λ (k : ℕ). eqb (get_or w i 0) (get_or v i 0) && same (drop k w) (drop k v)) next
-
-  pub same_on : get_or w i 0 ≡ get_or v i 0 → same (drop i w) (drop i v) ≡ same (drop (i + 1) w) (drop (i + 1) v)
-  same_on e = byte ∙ ap (λ (b : Bool). b && same (drop (i + 1) w) (drop (i + 1) v)) (eq-eqb (get_or w i 0) (get_or v i 0) e)
-
-  pub same_not : (get_or w i 0 ≡ get_or v i 0 → ⊥) → same (drop i w) (drop i v) ≡ false
-  same_not e = byte ∙ ap (λ (b : Bool). b && same (drop (i + 1) w) (drop (i + 1) v)) (ne_eqb (get_or w i 0) (get_or v i 0) e)
-
-pub same_all : (w v : List ℕ) (i : ℕ) → length w ≡ length v → length w ≤ i → same (drop i w) (drop i v) ≡ true
-unfolding same
-same_all w v i n h = λ j. same (drop_of_length-le w {i = i} h j) (drop_of_length-le v {i = i} (omega arith) j)
+    go : (v u : List ℕ) → same v u ≡ pointwise eqb v u
+    go [] [] = refl
+    go [] (y ∷ ys) = refl
+    go (x ∷ xs) [] = refl
+    go (x ∷ xs) (y ∷ ys) = ap (λ (t : Bool). eqb x y && t) (go xs ys)
 
 -- ---- the first of some tests that holds
 
@@ -56,13 +39,12 @@ first_yes {x = x} y e = ap (λ (t : Bool). cond t x y) e
 pub first_no : {A : Type 0} {b : Bool} (x : A) {y : A} → b ≡ false → cond b x y ≡ y
 first_no x {y = y} e = ap (λ (t : Bool). cond t x y) e
 
--- a number that is at most 255, and one that is not
-pub byte_is : (n : ℕ) → n < 256 → granted (n % 256) ≡ at_most 255 (granted n)
-unfolding at_most
-byte_is n h =
-    let m : n % 256 ≡ n = omega arith in
-    ap granted m ∙ sym (first_yes _ (le-leb n 255 (omega arith)))
-
-pub byte_not : (n : ℕ) → 256 ≤ n → bad ≡ at_most 255 (granted n)
-unfolding at_most
-byte_not n h = sym (first_no _ (lt-leb n 255 (omega arith)))
+-- a number is a byte, or is above 255
+pub byte_is : {E : Type 0} (r : Result ℕ E) (n : ℕ) → OkIff r (n < 256) n → outcome (result_or r (Err Einval)) ≡ at_most 255 (granted n)
+unfolding outcome at_most
+byte_is {E} (Ok x) n h =
+    let f : (n < 256) × (x ≡ n) = OkIff-at_ok {E = E} (Ok x) (n < 256) n x h refl in
+    ap granted f.1 ∙ sym (first_yes _ (le-leb n 255 (omega (arith, f.0))))
+byte_is {E} (Err e) n h =
+    let f : (n < 256) → ⊥ = OkIff-at_err {E = E} (Err e) (n < 256) n e h refl in
+    sym (first_no _ (lt-leb n 255 (omega (arith, f))))

@@ -8,8 +8,6 @@ use Rattle.errno.specs.declared.Errno.TheVariants.{Einval}
 use Rattle.number.specs.Text.{number_text, at_most}
 use Rattle.rules.specs.declared.Kind.{Kind}
 use Rattle.rules.specs.declared.Kind.TheVariants.{Adapter, Domain, Control}
-use Rattle.wordtext.specs.declared.KindRead.{KindRead}
-use Rattle.wordtext.specs.declared.ByteRead.{ByteRead}
 
 -- equal bytes
 unfoldable pub same : List ℕ → List ℕ → Bool
@@ -33,10 +31,3 @@ kind_text w = cond (is w "adapter") (granted Adapter) (cond (is w "domain") (gra
 -- a number of at most 255
 unfoldable pub byte_text : List ℕ → Outcome ℕ
 byte_text w = at_most 255 (number_text w)
-
--- what an answer comes to
-unfoldable pub kind_read : KindRead → Outcome Kind
-kind_read r = cond r.good (granted r.kind) bad
-
-unfoldable pub byte_read : ByteRead → Outcome ℕ
-byte_read r = cond r.good (granted r.value) bad

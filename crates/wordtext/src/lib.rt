@@ -1,96 +1,38 @@
-// Reads a word of a console line: a name, a kind of number, a number of at most 255.
+// Reads a word of a console line: a kind of number, a number of at most 255.
 //
 // Rests on errno, number and rules.
 #![tactic(auto)]
 
-ghost use Rattle.std.specs.Prelude.{◌≡◌, false};
-ghost use Rattle.errno.specs.Outcome.{granted};
-ghost use Rattle.number.specs.Text.{at_most};
-ghost use Rattle.rules.specs.declared.Kind.TheVariants.{Control};
-ghost use Rattle.wordtext.specs.Words.{same, kind_text, byte_text, kind_read, byte_read};
+ghost use Rattle.std.specs.Prelude.{◌≡◌};
+ghost use Rattle.errno.specs.Outcome.{outcome};
+ghost use Rattle.wordtext.specs.Words.{kind_text, byte_text};
 
+use errno::Errno;
 use number::Number;
 use rules::Kind;
 
-// What reading a kind finds; beside bad text stands a control domain.
-#[derive(Clone, Copy)]
-pub struct KindRead {
-    pub good: bool,
-    pub kind: Kind,
-}
-
-// What reading a number finds; beside bad text stands 0.
-#[derive(Clone, Copy)]
-pub struct ByteRead {
-    pub good: bool,
-    pub value: u8,
-}
-
-// Whether a word is this one.
-pub fn is(w: &[u8], name: &[u8]) -> bool
-    ensures { result ≡ same w.now name.now }
+pub fn kind(y: &[u8]) -> Result<Kind, Errno>
+    ensures { outcome result ≡ kind_text y.now }
 {
-    if w.len() != name.len() {
-        return false;
+    if y == b"adapter".as_slice() {
+        return Ok(Kind::Adapter);
     }
-    let mut i = 0usize;
-    while i < w.len() {
-        if w[i] != name[i] {
-            return false;
-        }
-        i += 1;
+    if y == b"domain".as_slice() {
+        return Ok(Kind::Domain);
     }
-    true
-}
-
-pub fn kind(y: &[u8]) -> KindRead
-    ensures result_value { kind_read result ≡ kind_text y.now }
-    ensures kind_value { result.good ≡ false → result.kind ≡ Control }
-{
-    if is(y, b"adapter") {
-        return KindRead {
-            good: true,
-            kind: Kind::Adapter,
-        };
+    if y == b"control".as_slice() {
+        return Ok(Kind::Control);
     }
-    if is(y, b"domain") {
-        return KindRead {
-            good: true,
-            kind: Kind::Domain,
-        };
-    }
-    KindRead {
-        good: is(y, b"control"),
-        kind: Kind::Control,
-    }
+    Err(Errno::Einval)
 }
 
 // A number of at most 255.
-pub fn byte(x: &[u8]) -> ByteRead
-    ensures result_value { byte_read result ≡ byte_text x.now }
-    ensures value_value { result.good ≡ false → result.value ≡ 0 }
+pub fn byte(x: &[u8]) -> Result<u8, Errno>
+    ensures { outcome result ≡ byte_text x.now }
 {
-    match number::parse(x) {
-        Number::Value(n) => low(n),
-        Number::Bad => ByteRead {
-            good: false,
-            value: 0,
-        },
-    }
-}
-
-fn low(n: u16) -> ByteRead
-    ensures result_value { byte_read result ≡ at_most 255 (granted n) }
-    ensures value_value { result.good ≡ false → result.value ≡ 0 }
-{
-    if n < 256 {
-        return ByteRead {
-            good: true,
-            value: (n % 256) as u8,
-        };
-    }
-    ByteRead {
-        good: false,
-        value: 0,
-    }
+    let n = match number::parse(x) {
+        Number::Value(n) => n,
+        Number::Bad => return Err(Errno::Einval),
+    };
+    u8::try_from(n).or(Err(Errno::Einval))
 }

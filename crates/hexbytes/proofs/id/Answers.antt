@@ -1,20 +1,13 @@
-use mathlib.Core.Bool.{true≢false}
-use mathlib.Core.Path.{refl}
-use Rattle.fields.specs.Fields.{id_of}
-use Rattle.hexbytes.specs.HexBytes.{id_read, id_text}
-use Rattle.hexbytes.proofs.Laws.{read_good, read_bad}
+-- `id` meets its contract: the id of the bytes, or their refusal.
+use Rattle.std.proofs.lemmas.Result.{err_from_is_err_and}
+use Rattle.errno.specs.Outcome.{outcome}
+use Rattle.hexbytes.proofs.Laws.{id_good, id_bad}
 use Rattle.hexbytes.proofs.id.Goals as goal
 
-pub returns-then-fill : goal.returns-then-fill
-unfolding id_read id_text
-returns-then-fill c = record {
-  result_value = read_good id_of 16 c.fill.ensures refl c.if-fill.true c.id_of-id.ensures;
-  id_value = λ e. absurd (true≢false e);
-}
+pub returns-in_err-bytes : goal.returns-in_err-bytes
+unfolding outcome
+returns-in_err-bytes c = let p = err_from_is_err_and c.from_residual.result c.from_residual.ensures.1 in rw (p.1, p.2) (id_bad _ _ c.in_err-bytes.ensures)
 
 pub returns : goal.returns
-unfolding id_read id_text
-returns c = record {
-  result_value = read_bad id_of 16 c.fill.ensures refl c.if-fill.false;
-  id_value = λ e. refl;
-}
+unfolding outcome
+returns c = id_good _ c.id_of.ensures c.in_ok-bytes.ensures

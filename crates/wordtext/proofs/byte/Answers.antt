@@ -1,19 +1,16 @@
--- `byte` meets its contract.
-use mathlib.Core.Path.{refl, sym, ap, ◌∙◌}
-use Rattle.number.specs.Text.{outcome, at_most}
-use Rattle.wordtext.specs.Words.{byte_read, byte_text}
+-- `byte` meets its contract: the number of the text, where it is a byte.
+use mathlib.Core.Path.{ap, ◌∙◌}
+use Rattle.errno.specs.Outcome.{outcome}
+use Rattle.number.specs.Text as Text
+use Rattle.number.specs.Text.{at_most}
+use Rattle.wordtext.specs.Words.{byte_text}
+use Rattle.wordtext.proofs.Laws.{byte_is}
 use Rattle.wordtext.proofs.byte.Goals as goal
 
-pub returns-in-Value : goal.returns-in-Value
-unfolding byte_text outcome
-returns-in-Value c = record {
-  result_value = c.low.ensures.result_value ∙ ap (at_most 255) (sym (ap outcome c.in-Value.is) ∙ c.parse.ensures);
-  value_value = c.low.ensures.value_value;
-}
+pub returns : goal.returns
+unfolding byte_text Text.outcome
+returns c = ap outcome c.or.ensures ∙ byte_is _ _ c.try_from.ensures ∙ ap (at_most 255) c.in-Value.ensures
 
 pub returns-in-Bad : goal.returns-in-Bad
-unfolding byte_read byte_text outcome at_most
-returns-in-Bad c = record {
-  result_value = ap (at_most 255) (sym (ap outcome c.in-Bad.is) ∙ c.parse.ensures);
-  value_value = λ e. refl;
-}
+unfolding outcome byte_text Text.outcome at_most
+returns-in-Bad c = ap (at_most 255) c.in-Bad.ensures

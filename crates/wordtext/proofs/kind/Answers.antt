@@ -1,31 +1,28 @@
--- `kind` meets its contract.
-use mathlib.Core.Bool.{Bool, cond, true≢false}
-use mathlib.Core.Path.{refl, sym, ap, ◌∙◌}
+-- `kind` meets its contract: the first name that the word is.
+use mathlib.Core.Path.{sym, ◌∙◌}
 use Rattle.errno.specs.Ascii.{ascii}
-use Rattle.errno.specs.Outcome.{granted}
-use Rattle.rules.specs.declared.Kind.TheVariants.{Control}
-use Rattle.wordtext.specs.Words.{bad, kind_text, kind_read}
-use Rattle.wordtext.proofs.Laws.{first_yes, first_no}
+use Rattle.errno.specs.Outcome.{outcome}
+use Rattle.wordtext.specs.Words.{kind_text}
+use Rattle.wordtext.proofs.Laws.{is_word, first_yes, first_no}
 use Rattle.wordtext.proofs.kind.Goals as goal
 
-pub returns-then-is : goal.returns-then-is
-unfolding kind_read kind_text ascii
-returns-then-is c = record {
-  result_value = sym (first_yes _ (sym c.is.ensures ∙ c.if-is.true));
-  kind_value = λ e. absurd (true≢false e);
-}
+pub returns-then-eq : goal.returns-then-eq
+unfolding outcome kind_text ascii
+returns-then-eq c = sym (first_yes _ (is_word _ "adapter" c.eq.ensures c.as_slice.ensures ∙ c.if-eq.true))
 
-pub returns-then-is-2 : goal.returns-then-is-2
-unfolding kind_read kind_text ascii
-returns-then-is-2 c = record {
-  result_value = sym (first_no _ (sym c.is.ensures ∙ c.if-is.false) ∙ first_yes _ (sym c.is-2.ensures ∙ c.if-is-2.true));
-  kind_value = λ e. absurd (true≢false e);
-}
+pub returns-then-eq-2 : goal.returns-then-eq-2
+unfolding outcome kind_text ascii
+returns-then-eq-2 c =
+    sym (first_no _ (is_word _ "adapter" c.eq.ensures c.as_slice.ensures ∙ c.if-eq.false) ∙ first_yes _ (is_word _ "domain" c.eq-2.ensures c.as_slice-2.ensures ∙ c.if-eq-2.true))
+
+pub returns-then-eq-3 : goal.returns-then-eq-3
+unfolding outcome kind_text ascii
+returns-then-eq-3 c =
+    sym (first_no _ (is_word _ "adapter" c.eq.ensures c.as_slice.ensures ∙ c.if-eq.false) ∙ first_no _ (is_word _ "domain" c.eq-2.ensures c.as_slice-2.ensures ∙ c.if-eq-2.false)
+    ∙ first_yes _ (is_word _ "control" c.eq-3.ensures c.as_slice-3.ensures ∙ c.if-eq-3.true))
 
 pub returns : goal.returns
-unfolding kind_read kind_text ascii
-returns c = record {
-  result_value = ap (λ (b : Bool). cond b (granted Control) bad) c.is-3.ensures
-      ∙ sym (first_no _ (sym c.is.ensures ∙ c.if-is.false) ∙ first_no _ (sym c.is-2.ensures ∙ c.if-is-2.false));
-  kind_value = λ e. refl;
-}
+unfolding outcome kind_text ascii
+returns c =
+    sym (first_no _ (is_word _ "adapter" c.eq.ensures c.as_slice.ensures ∙ c.if-eq.false) ∙ first_no _ (is_word _ "domain" c.eq-2.ensures c.as_slice-2.ensures ∙ c.if-eq-2.false)
+    ∙ first_no _ (is_word _ "control" c.eq-3.ensures c.as_slice-3.ensures ∙ c.if-eq-3.false))
