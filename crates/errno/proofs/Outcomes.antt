@@ -1,6 +1,6 @@
 -- What a `?` hands on.
 -- Assumes nothing.
-use Rattle.std.proofs.Common.{◌≡◌, ap, Result}
+use Rattle.std.proofs.Common.{◌≡◌, Result}
 use Rattle.std.proofs.lemmas.Result.{err_from_is_err_and}
 use Rattle.std.specs.Result.{IsErrAnd}
 use Rattle.errno.specs.declared.Errno.{Errno}

@@ -35,14 +35,3 @@ padded name = name ++ replicate (14 - length name) 0
 -- the eight cases by ascending number, as the table has them
 unfoldable pub cases : List Errno
 cases = Enoent ∷ Ebusy ∷ Eexist ∷ Enodev ∷ Einval ∷ Enospc ∷ Eaddrinuse ∷ Eaddrnotavail ∷ []
-
--- a case's row in the table
-abbrev pub row_of : Errno → ℕ
-row_of Enoent = 0
-row_of Ebusy = 1
-row_of Eexist = 2
-row_of Enodev = 3
-row_of Einval = 4
-row_of Enospc = 5
-row_of Eaddrinuse = 6
-row_of Eaddrnotavail = 7

@@ -3,8 +3,8 @@
 // Rests on nothing. Crates that refuse say why by an `Errno`.
 #![tactic(auto)]
 
-ghost use Rattle.std.specs.Prelude.{◌≡◌, length};
-ghost use Rattle.errno.specs.Errno.{number_of, name_of, padded, row_of};
+ghost use Rattle.std.specs.Prelude.{◌≡◌};
+ghost use Rattle.errno.specs.Errno.{number_of, name_of};
 
 // Why a request is refused.
 #[derive(Clone, Copy, PartialEq, Eq)]
@@ -22,97 +22,61 @@ pub enum Errno {
 // The bytes of a name that is padded with zeros.
 pub const NAME_BYTES: usize = 14;
 
-// A name as ASCII bytes: the first len of them, then zeros.
-#[derive(Clone, Copy)]
-pub struct Ascii {
-    pub bytes: [u8; NAME_BYTES],
-    pub len: usize,
-}
-
 // A value and its name.
 #[derive(Clone, Copy)]
 struct Entry {
     number: u8,
-    len: usize,
-    name: [u8; NAME_BYTES],
+    name: &'static [u8],
 }
 
-// By ascending number.
+// By ascending number, in the order of the cases.
 const TABLE: [Entry; 8] = [
     Entry {
         number: 2,
-        len: 6,
-        name: *b"ENOENT\0\0\0\0\0\0\0\0",
+        name: b"ENOENT",
     },
     Entry {
         number: 16,
-        len: 5,
-        name: *b"EBUSY\0\0\0\0\0\0\0\0\0",
+        name: b"EBUSY",
     },
     Entry {
         number: 17,
-        len: 6,
-        name: *b"EEXIST\0\0\0\0\0\0\0\0",
+        name: b"EEXIST",
     },
     Entry {
         number: 19,
-        len: 6,
-        name: *b"ENODEV\0\0\0\0\0\0\0\0",
+        name: b"ENODEV",
     },
     Entry {
         number: 22,
-        len: 6,
-        name: *b"EINVAL\0\0\0\0\0\0\0\0",
+        name: b"EINVAL",
     },
     Entry {
         number: 28,
-        len: 6,
-        name: *b"ENOSPC\0\0\0\0\0\0\0\0",
+        name: b"ENOSPC",
     },
     Entry {
         number: 98,
-        len: 10,
-        name: *b"EADDRINUSE\0\0\0\0",
+        name: b"EADDRINUSE",
     },
     Entry {
         number: 99,
-        len: 13,
-        name: *b"EADDRNOTAVAIL\0",
+        name: b"EADDRNOTAVAIL",
     },
 ];
 
-fn row(e: Errno) -> usize
-    ensures { result ≡ row_of e }
-{
-    match e {
-        Errno::Enoent => 0,
-        Errno::Ebusy => 1,
-        Errno::Eexist => 2,
-        Errno::Enodev => 3,
-        Errno::Einval => 4,
-        Errno::Enospc => 5,
-        Errno::Eaddrinuse => 6,
-        Errno::Eaddrnotavail => 7,
-    }
-}
-
 // The errno value of a case, as a hypervisor returns it.
+#[tactic(auto, unfolding(crate::specs::Errno::number_of))]
 pub fn number(e: Errno) -> u8
     ensures { result ≡ number_of e }
 {
-    let at = row(e);
-    TABLE[at].number
+    TABLE[e as usize].number
 }
 
-// The name of a case, as an answer line shows it.
-pub fn name(e: Errno) -> Ascii
-    ensures { (result.len ≡ length (name_of e)) × (result.bytes ≡ padded (name_of e)) }
+// The name of a case, as an answer line shows it, in ASCII.
+#[tactic(auto, unfolding(crate::specs::Errno::name_of, crate::specs::Ascii::ascii))]
+pub fn name(e: Errno) -> &'static [u8]
+    ensures { result.now ≡ name_of e }
 {
-    let at = row(e);
-    let entry = TABLE[at];
-    let bytes = entry.name;
-    Ascii {
-        bytes: bytes,
-        len: entry.len,
-    }
+    TABLE[e as usize].name
 }
