@@ -22,7 +22,7 @@ use denote.Laws.{Is}
 use Rattle.mask.specs.declared.Mask.{Mask}
 use Rattle.mask.specs.contracts.Mask.{the_row}
 use Rattle.mask.specs.Bits.{Small, Sized, Bits, digit, bit_at, bits, no_bits, all_bits, included, excluded, some_below, count_below, number, numbers}
-use Rattle.mask.proofs.Bit.{digit_or, digit_clear, digit_zero, digit_ones, one_shl, digit_pow, digit_mod, digit_half, half_small, digit_snoc, digit_last, same_digits, some_digit}
+use Rattle.mask.proofs.Bit.{digit_or, digit_clear, digit_zero, digit_ones, digit_pow, digit_mod, digit_half, half_small, digit_snoc, digit_last, same_digits, some_digit}
 
 -- two tests that follow from each other are one
 pub same_test : {a b : Bool} → (a ≡ true → b ≡ true) → (b ≡ true → a ≡ true) → a ≡ b
@@ -341,25 +341,26 @@ mask_op x y op g law none hx hy =
     zs : List ℕ
     zs = map (λ q. op (get_or x.words q 0) (get_or y.words q 0)) (0 ∷ 1 ∷ 2 ∷ 3 ∷ [])
 
--- a mask with bit i put, by an operation with `1 << (63 - i % 64)`
+-- a mask with bit i put, by an operation with its bit in its word
 module _ (m : Mask) {vs : List Val} (h : Is the_row m vs) (i : ℕ) (l : i < 256) where
   mask_put : (op : ℕ → ℕ → ℕ) (g : Bool → Bool → Bool)
       → ((a b k : ℕ) → a < 2 ^ 64 → b < 2 ^ 64 → digit (op a b) k ≡ g (digit b k) (digit a k)) → ((b : Bool) → g false b ≡ b)
-      → bit_at 64 (set m.words (i / 64) (op (get_or m.words (i / 64) 0) (1 * 2 ^ (63 - i % 64) % 2 ^ 64))) ≡ (λ j. g (eqb j i) (bits m j))
+      → bit_at 64 (set m.words (i / 64) (op (get_or m.words (i / 64) 0) (2 ^ (63 - i % 64)))) ≡ (λ j. g (eqb j i) (bits m j))
   mask_put op g law none =
       let r : Sized 64 4 m.words = mask_words_lem m h in
-      rw (one_shl 64 (63 - i % 64) (omega arith))
-      (fun_ext (λ j. bit_put op g 64 law none i j m.words (omega arith) r.small (omega (arith, r.long))))
+      fun_ext (λ j. bit_put op g 64 law none i j m.words (omega arith) r.small (omega (arith, r.long)))
 
-  pub mask_set : bit_at 64 (set m.words (i / 64) (bit_or (get_or m.words (i / 64) 0) (1 * 2 ^ (63 - i % 64) % 2 ^ 64))) ≡ included i (bits m)
+  pub mask_set : (b : ℕ) → b ≡ 2 ^ (63 - i % 64) → bit_at 64 (set m.words (i / 64) (bit_or (get_or m.words (i / 64) 0) b)) ≡ included i (bits m)
   unfolding included
-  mask_set = mask_put bit_or ◌||◌ (λ a b k _ _. digit_or a b k ∙ or_comm (digit a k) (digit b k)) (λ b. refl)
+  mask_set b e = rw e (mask_put bit_or ◌||◌ (λ a b k _ _. digit_or a b k ∙ or_comm (digit a k) (digit b k)) (λ b. refl))
 
-  pub mask_clear : bit_at 64 (set m.words (i / 64) (bit_and (get_or m.words (i / 64) 0) (2 ^ 64 - 1 - 1 * 2 ^ (63 - i % 64) % 2 ^ 64))) ≡ excluded i (bits m)
+  pub mask_clear : (b : ℕ) → b ≡ 2 ^ (63 - i % 64)
+      → bit_at 64 (set m.words (i / 64) (bit_and (get_or m.words (i / 64) 0) (2 ^ 64 - 1 - b))) ≡ excluded i (bits m)
   unfolding excluded
-  mask_clear =
-      mask_put (λ a b. bit_and a (2 ^ 64 - 1 - b)) (λ a b. not a && b)
-      (λ a b k ha hb. digit_clear 64 a b k ha hb ∙ and_comm (digit a k) (not (digit b k))) (λ b. refl)
+  mask_clear b e =
+      rw e
+      (mask_put (λ a b. bit_and a (2 ^ 64 - 1 - b)) (λ a b. not a && b)
+      (λ a b k ha hb. digit_clear 64 a b k ha hb ∙ and_comm (digit a k) (not (digit b k))) (λ b. refl))
 
 -- the bits of words that are all zeros, and all ones
 pub zero_bits : bit_at 64 (replicate 4 0) ≡ no_bits

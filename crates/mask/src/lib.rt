@@ -3,7 +3,7 @@
 // Rests on nothing. Bit 0 is the most significant bit of the first word.
 #![tactic(auto)]
 
-ghost use Rattle.std.specs.Prelude.{◌≡◌};
+ghost use Rattle.std.specs.Prelude.{◌-◌, ◌%◌, ◌^◌, ◌≡◌};
 ghost use Rattle.mask.specs.Bits.{bits, no_bits, all_bits, included, excluded};
 
 // An adapter number. It is a kind of its own, so that no call can take a domain number for it.
@@ -57,14 +57,21 @@ impl Mask {
     pub fn with(mut self, i: u8) -> Mask
         ensures { bits result ≡ included i (bits self) }
     {
-        self.words[(i / 64) as usize] |= 1 << (63 - i % 64);
+        self.words[(i / 64) as usize] |= bit_of(i);
         self
     }
 
     pub fn without(mut self, i: u8) -> Mask
         ensures { bits result ≡ excluded i (bits self) }
     {
-        self.words[(i / 64) as usize] &= !(1 << (63 - i % 64));
+        self.words[(i / 64) as usize] &= !bit_of(i);
         self
     }
+}
+
+// The bit with a number, in its word.
+fn bit_of(i: u8) -> u64
+    ensures { result ≡ 2 ^ (63 - i % 64) }
+{
+    1 << (63 - i % 64)
 }

@@ -1,8 +1,7 @@
 -- `Mask::with` meets its contract.
--- Assumes nothing.
 use Rattle.std.proofs.Common.{arith}
 use Rattle.mask.proofs.Laws.{mask_set}
 use Rattle.mask.proofs.Mask.with.Goals as goal
 
 pub returns : goal.returns
-returns c = mask_set c.args.self c.well_formed.0 c.args.i (omega arith)
+returns c = mask_set c.args.self c.well_formed.0 c.args.i (omega arith) c.bit_of.result c.bit_of.ensures
