@@ -10,7 +10,7 @@ use mathlib.Core.List.{List}
 use lib.ListN.{length, get_or, set}
 use lib.Seq.{get_or-set_same, set-set}
 use lib.Dec.{eqb, leb, ltb}
-use borrow.Author.Tests.{eq-eqb, ne_eqb, ltb-true, ltb-false, leb-true, leb-false, le-leb, lt-leb}
+use borrow.Author.Tests.{eq-eqb, ne_eqb, ltb-true, ltb-false, leb-true, leb-false, le-leb, lt-leb, lt-ltb, le-ltb}
 use Rattle.std.specs.Prelude.{Option, Some, None}
 use Rattle.std.proofs.lemmas.Option.{cond_some, none-some}
 use Rattle.rules.specs.declared.Driver.{Driver}
@@ -28,7 +28,7 @@ use Rattle.targetrow.specs.declared.TargetRow.{TargetRow}
 use Rattle.targetrow.specs.TargetRows.{TargetsOf, row_target}
 use Rattle.targetrow.proofs.Laws.{row_target_lem}
 use Rattle.sweep.specs.declared.Swept.{Swept}
-use Rattle.sweep.specs.Sweeps.{moves_bytes, finished_bytes, sweep_bytes, left_of, RowSweeping, Sweeping}
+use Rattle.sweep.specs.Sweeps.{moves_bytes, finished_bytes, sweep_bytes, left_of, PartSweeping, Sweeping}
 
 -- ---- moves
 
@@ -251,14 +251,14 @@ module _ {ws rs : List ℕ} {a b k left : ℕ} {qs : List ℕ} (w : Underway ws 
   -- at most two moves are due of the queue that a sweep has come to; it makes them all, or as many as are left
   pub queue_done : {after : List ℕ} (m : ℕ) → a * 256 + k < length qs → n ≤ left → after ≡ finished_bytes n t (a * 256 + k) qs → m ≡ k + 1
       → Underway ws rs (a * 256) b m (left - n) after
-  queue_done {after} m long enough e next =
+  queue_done {after} m long enough e f =
       let q = a * 256 + k in
-      subst (λ (i : ℕ). Underway ws rs (a * 256) b i (left - n) after) (sym next)
+      subst (λ (i : ℕ). Underway ws rs (a * 256) b i (left - n) after) (sym f)
       (goes_on w q 1 refl (left - n) after
       (e ∙ finished ws qs q n t long due_here target_here ∙ sym (sweep_one ws q left n qs (omega (arith, due_here))))
       (omega (arith, due_here, sum_from_one q (due_at (state_in ws qs)))))
 
-  pub queue_short : {after : List ℕ} → left < n → after ≡ moves_bytes ws left (a * 256 + k) qs → RowSweeping b a ws rs after None
+  pub queue_short : {after : List ℕ} → left < n → after ≡ moves_bytes ws left (a * 256 + k) qs → PartSweeping b 256 (a * 256) ws rs after None
   queue_short {after} few e =
       let q = a * 256 + k in
       let s = state_in ws qs in
@@ -269,24 +269,25 @@ module _ {ws rs : List ℕ} {a b k left : ℕ} {qs : List ℕ} (w : Underway ws 
         left = left_none b _ end.1;
       }
 
--- all queues of the adapter are passed
-pub row_done : {ws rs : List ℕ} {a b left : ℕ} {qs : List ℕ} → Underway ws rs (a * 256) b 256 left qs → RowSweeping b a ws rs qs (Some left)
-row_done {left = left} w = record { drivers = w.bytes; left = left_all _ _ left w.made }
+-- all queues of a part are passed
+pub part_done : {ws rs : List ℕ} {o b n left : ℕ} {qs : List ℕ} → Underway ws rs o b n left qs → PartSweeping b n o ws rs qs (Some left)
+part_done {left = left} w = record { drivers = w.bytes; left = left_all _ _ left w.made }
 
-module _ {ws rs : List ℕ} {a b left : ℕ} {qs after : List ℕ} {r : Option ℕ} (w : Underway ws rs 0 b (a * 256) left qs) (row : RowSweeping left a ws qs after r) where
+module _ {ws rs : List ℕ} (a : ℕ) {b left : ℕ} {qs after : List ℕ} {r : Option ℕ} (w : Underway ws rs 0 b (a * 256) left qs)
+    (row : PartSweeping left 256 (a * 256) ws qs after r) where
   -- the sweep of all queues goes on with the next adapter, or ends
   pub row_goes_on : {x : ℕ} (m : ℕ) → r ≡ Some x → m ≡ (a + 1) * 256 → Underway ws rs 0 b m x after
-  row_goes_on {x} m e next =
+  row_goes_on {x} m e n =
       let here : a * 256 + 256 ≡ m = omega arith in
       let needed = sum_from 256 (a * 256) (due_at (state_in ws qs)) in
       subst (λ (i : ℕ). Underway ws rs 0 b i x after) here
       (goes_on w (a * 256) 256 (sym (zero-add (a * 256))) x after row.drivers (left_some left needed x (sym row.left ∙ e)))
 
-  pub row_stops : r ≡ None → a < 256 → (after ≡ sweep_bytes ws queues 0 b rs) × (b < remaining (state_in ws rs))
+  pub row_stops : r ≡ None → a < 256 → PartSweeping b queues 0 ws rs after None
   row_stops e below =
       let needed = sum_from 256 (a * 256) (due_at (state_in ws qs)) in
       let end = stops w (a * 256) 256 (sym (zero-add (a * 256))) queues (omega arith) (left_short left needed (sym row.left ∙ e)) in
-      (row.drivers ∙ end.0, subst (λ (i : ℕ). b < i) (all_due (state_in ws rs)) end.1)
+      record { drivers = row.drivers ∙ end.0; left = left_none b _ end.1 }
 
 -- a whole sweep, by the bytes that it leaves, its number, and whether more moves remain than it makes
 pub swept_by : (ws rs qs : List ℕ) (budget most : ℕ) (r : Swept) → queues ≤ length rs → most ≡ min budget most_moves
@@ -308,3 +309,22 @@ swept_by ws rs qs budget most r h m b u o =
     go : (x r : ℕ) → x + min most r ≡ r → (t : Bool) → ltb most r ≡ t → not (eqb x 0) ≡ t
     go x r f true l = let below : most < r = ltb-true most r l in ap not (ne_eqb x 0 (λ z. omega arith))
     go x r f false l = let past : r ≤ most = ltb-false most r l in ap not (eq-eqb x 0 (omega arith))
+
+-- a sweep of all queues, by the moves left: they suffice, or do not
+module _ {ws rs qs : List ℕ} (budget : ℕ) {most : ℕ} {r : Option ℕ} (all : PartSweeping most queues 0 ws rs qs r) (long : queues ≤ length rs)
+    (e : most ≡ min budget most_moves) where
+  needed : sum_from queues 0 (due_at (state_in ws rs)) ≡ remaining (state_in ws rs)
+  needed = all_due (state_in ws rs)
+
+  pub left_at_most : {x : ℕ} → r ≡ Some x → x ≤ most
+  left_at_most {x} f = omega (arith, left_some most _ x (sym all.left ∙ f))
+
+  pub swept_all : {x : ℕ} → r ≡ Some x → Sweeping budget ws rs qs record { used = most - x; more = false }
+  swept_all {x} f =
+      let made : most ≡ x + remaining (state_in ws rs) = omega (arith, left_some most _ x (sym all.left ∙ f), needed) in
+      swept_by ws rs qs budget most _ long e all.drivers (omega arith) (sym (le-ltb most _ (omega arith)))
+
+  pub swept_short : r ≡ None → Sweeping budget ws rs qs record { used = most; more = true }
+  swept_short f =
+      let fewer : most < remaining (state_in ws rs) = omega (arith, left_short most _ (sym all.left ∙ f), needed) in
+      swept_by ws rs qs budget most _ long e all.drivers (omega arith) (sym (lt-ltb most _ fewer))

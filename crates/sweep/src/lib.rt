@@ -3,9 +3,9 @@
 // Rests on mask, rules, layout, drivers, targetrow, bind and due.
 #![tactic(auto)]
 
-ghost use Rattle.std.specs.Prelude.{◌≡◌};
-ghost use Rattle.rules.specs.State.{apqn};
-ghost use Rattle.sweep.specs.Sweeps.{moves_bytes, finished_bytes, RowSweeps, Sweeps};
+ghost use Rattle.std.specs.Prelude.{◌≡◌, ◌*◌};
+ghost use Rattle.rules.specs.State.{apqn, queues};
+ghost use Rattle.sweep.specs.Sweeps.{moves_bytes, finished_bytes, PartSweeps, Sweeps};
 
 use layout::{Drivers, Words};
 use mask::{Apid, Apqi};
@@ -27,27 +27,32 @@ pub fn sweep(words: &Words, drivers: &mut Drivers, budget: u32) -> Swept
     ensures { Sweeps budget words.entry drivers.entry drivers.exit result }
 {
     let most = budget.min(MOST_MOVES);
-    let mut left = most;
-    for adapter in 0..=255u8 {
-        match sweep_row(words, drivers, Apid(adapter), left) {
-            Some(rest) => left = rest,
-            None => {
-                return Swept {
-                    used: most,
-                    more: true,
-                };
-            }
-        }
-    }
-    Swept {
-        used: most - left,
-        more: false,
+    match sweep_rows(words, drivers, most) {
+        Some(left) => Swept {
+            used: most - left,
+            more: false,
+        },
+        None => Swept {
+            used: most,
+            more: true,
+        },
     }
 }
 
-// The same for the queues of one adapter. Answers the moves that are left, or none where they did not suffice.
+// The same for all queues, with some moves to make. Answers the moves that are left, or none where more were due.
+fn sweep_rows(words: &Words, drivers: &mut Drivers, moves: u32) -> Option<u32>
+    ensures { PartSweeps moves queues 0 words.entry drivers.entry drivers.exit result }
+{
+    let mut left = moves;
+    for adapter in 0..=255u8 {
+        left = sweep_row(words, drivers, Apid(adapter), left)?;
+    }
+    Some(left)
+}
+
+// The same for the queues of one adapter.
 fn sweep_row(words: &Words, drivers: &mut Drivers, adapter: Apid, moves: u32) -> Option<u32>
-    ensures { RowSweeps moves adapter.0 words.entry drivers.entry drivers.exit result }
+    ensures { PartSweeps moves 256 (adapter.0 * 256) words.entry drivers.entry drivers.exit result }
 {
     let row = TargetRow::of(words, adapter);
     let mut left = moves;

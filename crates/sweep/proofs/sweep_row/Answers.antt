@@ -1,7 +1,7 @@
 -- `sweep_row` meets its contract: queue by queue, and it ends at the first that needs more moves than are left.
 use native.Mathlib.Omega.{arith}
-use mathlib.Core.Path.{◌≡◌, refl}
-use Rattle.sweep.proofs.Laws.{sweep_starts, as_long, queue_done, queue_short, row_done}
+use mathlib.Core.Path.{refl}
+use Rattle.sweep.proofs.Laws.{sweep_starts, as_long, queue_done, queue_short, part_done}
 use Rattle.sweep.proofs.sweep_row.Goals as goal
 
 pub loop-n-init : goal.loop-n-init
@@ -19,6 +19,6 @@ loop-n-preserved c =
 
 pub returns-else-left-due : goal.returns-else-left-due
 returns-else-left-due c =
-    row_done
+    part_done
     (queue_done c.loop-n.invariant c.of-row.ensures (omega arith) c.driver.ensures c.target-target.ensures c.due_by-due.ensures
     256 (omega (arith, as_long c.loop-n.invariant)) c.if-left-due.false c.finish.ensures (omega arith))
