@@ -16,7 +16,6 @@ use rules::{Driver, Moved};
 pub fn move_queue(words: &Words, drivers: &mut Drivers, adapter: Apid, domain: Apqi) -> Moved
     ensures { Moves (apqn adapter domain) words.entry drivers.entry drivers.exit result }
 {
-    layout::hold_drivers(drivers);
     let m = moved_by(
         drivers::driver(drivers, adapter, domain),
         target::target(words, adapter, domain),

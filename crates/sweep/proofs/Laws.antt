@@ -1,28 +1,34 @@
 -- The bytes that several moves and sweeps write, read as moves and sweeps of the state; a sweep part by part.
 -- Assumes nothing.
-use Prim.Native.Nat.{ℕ, zero, suc, ◌+◌, ◌-◌, ◌≤◌, ◌<◌, min}
+use Prim.Native.Nat.{ℕ, zero, suc, ◌+◌, ◌-◌, ◌*◌, ◌≤◌, ◌<◌, min}
 use native.Mathlib.Nat.{add-zero, zero-add}
+use native.Mathlib.Numerals.{add-one}
 use native.Mathlib.Omega.{arith}
-use mathlib.Core.Path.{◌≡◌, refl, sym, ap, ap₂, ◌∙◌}
+use mathlib.Core.Path.{◌≡◌, refl, sym, ap, ap₂, subst, ◌∙◌}
 use mathlib.Core.Bool.{Bool, true, false, cond, not}
 use mathlib.Core.List.{List}
 use lib.ListN.{length, get_or, set}
 use lib.Seq.{get_or-set_same, set-set}
-use lib.Dec.{eqb, ltb}
-use borrow.Author.Tests.{eq-eqb, ne_eqb, ltb-true, ltb-false}
+use lib.Dec.{eqb, leb, ltb}
+use borrow.Author.Tests.{eq-eqb, ne_eqb, ltb-true, ltb-false, leb-true, leb-false, le-leb, lt-leb, lt-ltb, le-ltb}
+use Rattle.std.specs.Prelude.{Option, Some, None}
+use Rattle.std.proofs.lemmas.Option.{cond_some, none-some}
 use Rattle.rules.specs.declared.Driver.{Driver}
 use Rattle.rules.specs.declared.Driver.TheVariants.{Unbound, Host, Passthrough}
 use Rattle.rules.specs.State.{queues}
 use Rattle.rules.specs.Queues.{target_of, moved, due, due_at, sum_from, remaining, moves, most_moves, moves_used}
-use Rattle.rules.proofs.Sums.{sum_from_none, sum_from_first, sum_from_cong, sum_from_parts}
-use Rattle.rules.proofs.Sweeps.{sweep_from, sweep, remaining_swept, sweeping}
+use Rattle.rules.proofs.Sums.{sum_from_none, sum_from_first, sum_from_cong, sum_from_parts, sum_from_one}
+use Rattle.rules.proofs.Sweeps.{sweep_from, sweep, remaining_swept, sweeping, all_due}
 use Rattle.layout.specs.Layout.{state_in, host_in, config_in, driver_of, byte_of}
 use Rattle.layout.proofs.Laws.{driver_of_byte}
 use Rattle.bind.specs.Moves.{bytes_after, move_bytes}
 use Rattle.bind.proofs.Laws.{read_move, move_length, move_other, bytes_by, answer_read}
 use Rattle.due.proofs.Laws.{due_read}
+use Rattle.targetrow.specs.declared.TargetRow.{TargetRow}
+use Rattle.targetrow.specs.TargetRows.{TargetsOf, row_target}
+use Rattle.targetrow.proofs.Laws.{row_target_lem}
 use Rattle.sweep.specs.declared.Swept.{Swept}
-use Rattle.sweep.specs.Sweeps.{moves_bytes, sweep_bytes, Sweeping}
+use Rattle.sweep.specs.Sweeps.{moves_bytes, finished_bytes, sweep_bytes, left_of, PartSweeping, Sweeping}
 
 -- ---- moves
 
@@ -41,6 +47,15 @@ pub moves_other_byte : (ws : List ℕ) (m n : ℕ) (qs : List ℕ) (j : ℕ) →
 unfolding moves_bytes
 moves_other_byte ws zero n qs j h = refl
 moves_other_byte ws (suc m) n qs j h = moves_other_byte ws m n (move_bytes ws n qs) j h ∙ move_other ws qs n j h
+
+-- one more move
+pub moves_more : (ws : List ℕ) (m n : ℕ) (qs : List ℕ) → moves_bytes ws (m + 1) n qs ≡ move_bytes ws n (moves_bytes ws m n qs)
+unfolding moves_bytes
+moves_more ws m n qs = ap (λ (i : ℕ). moves_bytes ws i n qs) (add-one m) ∙ go m qs
+  where
+    go : (m : ℕ) (qs : List ℕ) → moves_bytes ws (suc m) n qs ≡ move_bytes ws n (moves_bytes ws m n qs)
+    go zero qs = refl
+    go (suc m) qs = go m (move_bytes ws n qs)
 
 -- no move, one and two
 pub no_moves : (ws : List ℕ) (n : ℕ) (qs : List ℕ) → moves_bytes ws 0 n qs ≡ qs
@@ -196,6 +211,84 @@ module _ {ws rs : List ℕ} {o b k left : ℕ} {qs : List ℕ} (w : Underway ws 
         omega (arith, sum_from_parts (k + m) x o f, ap (λ (i : ℕ). sum_from i o f) c),
       )
 
+-- ---- a sweep of an adapter's queues
+
+-- the moves that are left, and that they do not suffice
+pub left_all : (b n x : ℕ) → b ≡ x + n → Some x ≡ left_of b n
+unfolding left_of
+left_all b n x e =
+    let rest : x ≡ b - n = omega arith in
+    ap Some rest ∙ ap (λ (t : Bool). cond t (Some (b - n)) None) (sym (le-leb n b (omega arith)))
+
+pub left_none : (b n : ℕ) → b < n → None ≡ left_of b n
+unfolding left_of
+left_none b n h = ap (λ (t : Bool). cond t (Some (b - n)) None) (sym (lt-leb n b h))
+
+left_some : (b n x : ℕ) → left_of b n ≡ Some x → b ≡ x + n
+unfolding left_of
+left_some b n x e =
+    let enough = cond_some (leb n b) (b - n) x e in
+    let below : n ≤ b = leb-true n b enough.0 in
+    omega (arith, enough.1)
+
+left_short : (b n : ℕ) → left_of b n ≡ None → b < n
+unfolding left_of
+left_short b n e = go (leb n b) refl
+  where
+    go : (t : Bool) → leb n b ≡ t → b < n
+    go true q = absurd (none-some (b - n) (sym e ∙ ap (λ (u : Bool). cond u (Some (b - n)) None) q))
+    go false q = leb-false n b q
+
+module _ {ws rs : List ℕ} {a b k left : ℕ} {qs : List ℕ} (w : Underway ws rs (a * 256) b k left qs) {row : TargetRow}
+    (targets : TargetsOf (host_in ws) (config_in ws) a row) (below : k < 256) {v t : Driver} {n : ℕ}
+    (driver : v ≡ driver_of (get_or qs (a * 256 + k) 0)) (target : t ≡ row_target row k) (needs : n ≡ due v t) where
+  target_here : t ≡ target_of (host_in ws) (config_in ws) (a * 256 + k)
+  target_here = target ∙ row_target_lem targets k below
+
+  due_here : n ≡ due_at (state_in ws qs) (a * 256 + k)
+  due_here = needs ∙ ap₂ due driver target_here ∙ sym (due_read ws qs (a * 256 + k))
+
+  -- at most two moves are due of the queue that a sweep has come to; it makes them all, or as many as are left
+  pub queue_done : {after : List ℕ} (m : ℕ) → a * 256 + k < length qs → n ≤ left → after ≡ finished_bytes n t (a * 256 + k) qs → m ≡ k + 1
+      → Underway ws rs (a * 256) b m (left - n) after
+  queue_done {after} m long enough e f =
+      let q = a * 256 + k in
+      subst (λ (i : ℕ). Underway ws rs (a * 256) b i (left - n) after) (sym f)
+      (goes_on w q 1 refl (left - n) after
+      (e ∙ finished ws qs q n t long due_here target_here ∙ sym (sweep_one ws q left n qs (omega (arith, due_here))))
+      (omega (arith, due_here, sum_from_one q (due_at (state_in ws qs)))))
+
+  pub queue_short : {after : List ℕ} → left < n → after ≡ moves_bytes ws left (a * 256 + k) qs → PartSweeping b 256 (a * 256) ws rs after None
+  queue_short {after} few e =
+      let q = a * 256 + k in
+      let s = state_in ws qs in
+      let more : left < due_at s q = omega (arith, due_here) in
+      let end = stops w q 1 refl 256 (omega arith) (omega (arith, sum_from_one q (due_at s))) in
+      record {
+        drivers = e ∙ sym (sweep_one ws q left left qs (omega arith)) ∙ end.0;
+        left = left_none b _ end.1;
+      }
+
+-- all queues of a part are passed
+pub part_done : {ws rs : List ℕ} {o b n left : ℕ} {qs : List ℕ} → Underway ws rs o b n left qs → PartSweeping b n o ws rs qs (Some left)
+part_done {left = left} w = record { drivers = w.bytes; left = left_all _ _ left w.made }
+
+module _ {ws rs : List ℕ} (a : ℕ) {b left : ℕ} {qs after : List ℕ} {r : Option ℕ} (w : Underway ws rs 0 b (a * 256) left qs)
+    (row : PartSweeping left 256 (a * 256) ws qs after r) where
+  -- the sweep of all queues goes on with the next adapter, or ends
+  pub row_goes_on : {x : ℕ} (m : ℕ) → r ≡ Some x → m ≡ (a + 1) * 256 → Underway ws rs 0 b m x after
+  row_goes_on {x} m e n =
+      let here : a * 256 + 256 ≡ m = omega arith in
+      let needed = sum_from 256 (a * 256) (due_at (state_in ws qs)) in
+      subst (λ (i : ℕ). Underway ws rs 0 b i x after) here
+      (goes_on w (a * 256) 256 (sym (zero-add (a * 256))) x after row.drivers (left_some left needed x (sym row.left ∙ e)))
+
+  pub row_stops : r ≡ None → a < 256 → PartSweeping b queues 0 ws rs after None
+  row_stops e below =
+      let needed = sum_from 256 (a * 256) (due_at (state_in ws qs)) in
+      let end = stops w (a * 256) 256 (sym (zero-add (a * 256))) queues (omega arith) (left_short left needed (sym row.left ∙ e)) in
+      record { drivers = row.drivers ∙ end.0; left = left_none b _ end.1 }
+
 -- a whole sweep, by the bytes that it leaves, its number, and whether more moves remain than it makes
 pub swept_by : (ws rs qs : List ℕ) (budget most : ℕ) (r : Swept) → queues ≤ length rs → most ≡ min budget most_moves
     → qs ≡ sweep_bytes ws queues 0 most rs → r.used ≡ min most (remaining (state_in ws rs)) → r.more ≡ ltb most (remaining (state_in ws rs))
@@ -216,3 +309,22 @@ swept_by ws rs qs budget most r h m b u o =
     go : (x r : ℕ) → x + min most r ≡ r → (t : Bool) → ltb most r ≡ t → not (eqb x 0) ≡ t
     go x r f true l = let below : most < r = ltb-true most r l in ap not (ne_eqb x 0 (λ z. omega arith))
     go x r f false l = let past : r ≤ most = ltb-false most r l in ap not (eq-eqb x 0 (omega arith))
+
+-- a sweep of all queues, by the moves left: they suffice, or do not
+module _ {ws rs qs : List ℕ} (budget : ℕ) {most : ℕ} {r : Option ℕ} (all : PartSweeping most queues 0 ws rs qs r) (long : queues ≤ length rs)
+    (e : most ≡ min budget most_moves) where
+  needed : sum_from queues 0 (due_at (state_in ws rs)) ≡ remaining (state_in ws rs)
+  needed = all_due (state_in ws rs)
+
+  pub left_at_most : {x : ℕ} → r ≡ Some x → x ≤ most
+  left_at_most {x} f = omega (arith, left_some most _ x (sym all.left ∙ f))
+
+  pub swept_all : {x : ℕ} → r ≡ Some x → Sweeping budget ws rs qs record { used = most - x; more = false }
+  swept_all {x} f =
+      let made : most ≡ x + remaining (state_in ws rs) = omega (arith, left_some most _ x (sym all.left ∙ f), needed) in
+      swept_by ws rs qs budget most _ long e all.drivers (omega arith) (sym (le-ltb most _ (omega arith)))
+
+  pub swept_short : r ≡ None → Sweeping budget ws rs qs record { used = most; more = true }
+  swept_short f =
+      let fewer : most < remaining (state_in ws rs) = omega (arith, left_short most _ (sym all.left ∙ f), needed) in
+      swept_by ws rs qs budget most _ long e all.drivers (omega arith) (sym (lt-ltb most _ fewer))

@@ -3,9 +3,9 @@
 // Rests on mask, rules, layout, drivers, targetrow, bind and due.
 #![tactic(auto)]
 
-ghost use Rattle.std.specs.Prelude.{◌≡◌, ◌≤◌};
-ghost use Rattle.rules.specs.State.{apqn};
-ghost use Rattle.sweep.specs.Sweeps.{moves_bytes, finished_bytes, RowSweeps, Sweeps};
+ghost use Rattle.std.specs.Prelude.{◌≡◌, ◌*◌};
+ghost use Rattle.rules.specs.State.{apqn, queues};
+ghost use Rattle.sweep.specs.Sweeps.{moves_bytes, finished_bytes, PartSweeps, Sweeps};
 
 use layout::{Drivers, Words};
 use mask::{Apid, Apqi};
@@ -22,93 +22,69 @@ pub struct Swept {
     pub more: bool,
 }
 
-// What a sweep of one adapter's queues leaves: moves to make, or none and queues that still need some.
-#[derive(Clone, Copy)]
-struct Rest {
-    left: u32,
-    short: bool,
-}
-
 // Makes as many moves as the budget allows, by ascending queue, and finishes each queue before the next.
 pub fn sweep(words: &Words, drivers: &mut Drivers, budget: u32) -> Swept
     ensures { Sweeps budget words.entry drivers.entry drivers.exit result }
 {
-    layout::hold_drivers(drivers);
-    let most = if budget < MOST_MOVES {
-        budget
-    } else {
-        MOST_MOVES
-    };
-    let mut left = most;
-    let mut adapter = 0usize;
-    while adapter < 256 {
-        let rest = sweep_row(words, drivers, Apid(adapter as u8), left);
-        if rest.short {
-            return Swept {
-                used: most,
-                more: true,
-            };
-        }
-        left = rest.left;
-        adapter += 1;
+    let most = budget.min(MOST_MOVES);
+    match sweep_rows(words, drivers, most) {
+        Some(left) => Swept {
+            used: most - left,
+            more: false,
+        },
+        None => Swept {
+            used: most,
+            more: true,
+        },
     }
-    let made = most - left;
-    Swept {
-        used: made,
-        more: false,
+}
+
+// The same for all queues, with some moves to make. Answers the moves that are left, or none where more were due.
+fn sweep_rows(words: &Words, drivers: &mut Drivers, moves: u32) -> Option<u32>
+    ensures { PartSweeps moves queues 0 words.entry drivers.entry drivers.exit result }
+{
+    let mut left = moves;
+    for adapter in 0..=255u8 {
+        left = sweep_row(words, drivers, Apid(adapter), left)?;
     }
+    Some(left)
 }
 
 // The same for the queues of one adapter.
-fn sweep_row(words: &Words, drivers: &mut Drivers, adapter: Apid, moves: u32) -> Rest
-    ensures { RowSweeps moves adapter.0 words.entry drivers.entry drivers.exit result }
+fn sweep_row(words: &Words, drivers: &mut Drivers, adapter: Apid, moves: u32) -> Option<u32>
+    ensures { PartSweeps moves 256 (adapter.0 * 256) words.entry drivers.entry drivers.exit result }
 {
-    layout::hold_drivers(drivers);
     let row = TargetRow::of(words, adapter);
     let mut left = moves;
-    let mut domain = 0usize;
-    while domain < 256 {
-        let d = Apqi(domain as u8);
-        let t = row.target(d);
-        let n = due::due_by(drivers::driver(drivers, adapter, d), t);
-        if left < n {
-            settle(words, drivers, adapter, d, left);
-            return Rest {
-                left: 0,
-                short: true,
-            };
+    for n in 0..=255u8 {
+        let domain = Apqi(n);
+        let target = row.target(domain);
+        let due = due::due_by(drivers::driver(drivers, adapter, domain), target);
+        if left < due {
+            settle(words, drivers, adapter, domain, left);
+            return None;
         }
-        finish(drivers, adapter, d, n, t);
-        left = left - n;
-        domain += 1;
+        finish(drivers, adapter, domain, due, target);
+        left -= due;
     }
-    Rest {
-        left: left,
-        short: false,
-    }
+    Some(left)
 }
 
 // Makes some moves of a queue.
+#[tactic(auto, using(crate::proofs::Laws::no_moves, crate::proofs::Laws::moves_more))]
 fn settle(words: &Words, drivers: &mut Drivers, adapter: Apid, domain: Apqi, moves: u32)
-    requires { moves ≤ 2 }
     ensures { drivers.new ≡ moves_bytes words.now moves (apqn adapter domain) drivers.old }
 {
-    if moves == 0 {
-        return;
+    for _ in 0..moves {
+        bind::move_queue(words, drivers, adapter, domain);
     }
-    bind::move_queue(words, drivers, adapter, domain);
-    if moves == 1 {
-        return;
-    }
-    bind::move_queue(words, drivers, adapter, domain);
 }
 
 // Makes all moves that are due of a queue: the driver after the last is the target.
 fn finish(drivers: &mut Drivers, adapter: Apid, domain: Apqi, due: u32, target: Driver)
     ensures { drivers.new ≡ finished_bytes due target (apqn adapter domain) drivers.old }
 {
-    if due == 0 {
-        return;
+    if due != 0 {
+        drivers::put_driver(drivers, adapter, domain, target);
     }
-    drivers::put_driver(drivers, adapter, domain, target);
 }

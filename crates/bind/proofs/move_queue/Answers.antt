@@ -20,7 +20,7 @@ done c rs m e b =
     let a = c.args in
     let q = apqn a.adapter a.domain in
     moving a.words.now a.drivers.now rs q c.moved_by-m.result
-    (omega (arith, c.hold_drivers.ensures.long))
+    (omega arith)
     (c.moved_by-m.ensures ∙ ap₂ moved c.driver.ensures c.target.ensures ∙ answer_read a.words.now a.drivers.now q)
     (rw e b)
 
