@@ -18,7 +18,7 @@ pub fn configure(words: &mut Words, drivers: &mut Drivers, configuration: Config
     ensures { Configures configuration words.entry words.exit drivers.entry drivers.exit result }
 {
     if beyond(words, configuration) {
-        return Answer::Refused(Errno::Enodev);
+        return Err(Errno::Enodev);
     }
     layout::hold_words(words);
     layout::hold_drivers(drivers);
@@ -34,7 +34,7 @@ pub fn configure(words: &mut Words, drivers: &mut Drivers, configuration: Config
         },
     );
     store::put_configuration(words, configuration);
-    Answer::Done
+    Ok(())
 }
 
 // Whether a bit of a configuration's masks is above its limit.

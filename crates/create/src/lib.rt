@@ -8,20 +8,17 @@ ghost use Rattle.layout.specs.Carried.{Obeys};
 ghost use Rattle.create.specs.Created.{created};
 
 use errno::Errno;
-use layout::{SLOTS, Words};
+use layout::Words;
 use rules::{Answer, Id};
 
 pub fn create(words: &mut Words, id: Id) -> Answer
     ensures { Obeys (create id) (created id) words.entry words.exit result }
 {
-    if lookup::find(words, id) < SLOTS {
-        return Answer::Refused(Errno::Eexist);
+    if lookup::find(words, id).is_some() {
+        return Err(Errno::Eexist);
     }
-    let slot = lookup::free(words);
-    if SLOTS <= slot {
-        return Answer::Refused(Errno::Enospc);
-    }
+    let slot = lookup::free(words).ok_or(Errno::Enospc)?;
     layout::hold_words(words);
     store::put_device(words, slot, true, id);
-    Answer::Done
+    Ok(())
 }
