@@ -1,22 +1,53 @@
-// A list of commands, moves and sweeps as bytes: where one step ends.
+// A list of commands, moves and sweeps as bytes: where one step ends, and the command of an operation.
 //
 // Rests on rules, fields and model.
 #![tactic(auto)]
 
-ghost use Rattle.std.specs.Prelude.{◌≡◌, cond, drop};
-ghost use Rattle.encoding.specs.Encoding.{size_of, whole};
+ghost use Rattle.std.specs.Prelude.{◌≡◌, cond, drop, Some, None};
+ghost use Rattle.encoding.specs.Encoding.{size_of, whole, command_of};
+ghost use Rattle.encoding.specs.Meant.{meant};
 
-// The size of the step at an index, or 0 where no whole step is left.
-pub fn size_at(bytes: &[u8], at: usize) -> usize
-    ensures { result ≡ cond (whole (drop at bytes.now)) (size_of (drop at bytes.now)) 0 }
+use rules::{Id, Kind};
+
+// A command, with its text lent; a configuration is lent as its bytes.
+#[derive(Clone, Copy)]
+pub enum Command<'a> {
+    Create(Id),
+    Remove(Id),
+    Open(Id),
+    Close(Id),
+    Assign(Kind, Id, &'a [u8]),
+    Unassign(Kind, Id, &'a [u8]),
+    SetApmask(&'a [u8]),
+    SetAqmask(&'a [u8]),
+    Configure(&'a [u8]),
+}
+
+// The command of an operation.
+pub fn command_of<'a>(op: u8, kind: Kind, id: Id, text: &'a [u8]) -> Command<'a>
+    ensures { meant result ≡ command_of op kind id text.now }
 {
-    if bytes.len() <= at {
-        return 0;
+    match op {
+        0 => Command::Create(id),
+        1 => Command::Remove(id),
+        2 => Command::Open(id),
+        3 => Command::Close(id),
+        4 => Command::Assign(kind, id, text),
+        5 => Command::Unassign(kind, id, text),
+        6 => Command::SetApmask(text),
+        7 => Command::SetAqmask(text),
+        _ => Command::Configure(text),
     }
-    let left = bytes.len() - at;
-    if left < 20 {
-        return 0;
+}
+
+// The size of the step at an index, where a whole step is left.
+pub fn size_at(bytes: &[u8], at: usize) -> Option<usize>
+    ensures { result ≡ cond (whole (drop at bytes.now)) (Some (size_of (drop at bytes.now))) None }
+{
+    let left = bytes.get(at..)?;
+    if left.len() < 20 {
+        return None;
     }
-    let size = 20 + (bytes[at + 18] as usize * 256 + bytes[at + 19] as usize);
-    if left < size { 0 } else { size }
+    let size = 20 + usize::from(left[18]) * 256 + usize::from(left[19]);
+    if left.len() < size { None } else { Some(size) }
 }
