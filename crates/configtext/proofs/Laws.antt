@@ -37,14 +37,6 @@ pub hex_not : (w : List ℕ) {b : Bool} → b ≡ starts_hex w → b ≡ false �
 unfolding hex_text
 hex_not w e h = sym (ap (λ (t : Bool). cond t (mask_text w no_bits) (refused Einval)) (sym e ∙ h))
 
--- an answer that has its outcome beside it
-module _ {A : Type 0} (g : Bool) (x : A) {o : Outcome A} (e : cond g (granted x) (refused Einval) ≡ o) where
-  pub told_good : g ≡ true → o ≡ granted x
-  told_good h = sym e ∙ ap (λ (b : Bool). cond b (granted x) (refused Einval)) h
-
-  pub told_bad : g ≡ false → o ≡ refused Einval
-  told_bad h = sym e ∙ ap (λ (b : Bool). cond b (granted x) (refused Einval)) h
-
 -- ---- four words, judged from the left
 
 -- the words that were handed on

@@ -1,11 +1,10 @@
 -- The configuration of a console line (RULES.md, "Console"): three masks in hex, then two hex digits for each adapter's type.
 -- Assumes nothing.
-use Rattle.std.specs.Prelude.{ℕ, cond, List, [], eqb, length, get_or, Result, Ok, Err}
+use Rattle.std.specs.Prelude.{ℕ, cond, List, [], eqb, length, get_or}
 use Rattle.errno.specs.Outcome.{Outcome, granted, refused}
-use Rattle.errno.specs.declared.Errno.{Errno}
 use Rattle.errno.specs.declared.Errno.TheVariants.{Einval}
 use Rattle.mask.specs.declared.Mask.{Mask}
-use Rattle.mask.specs.Bits.{Bits, bits, no_bits, numbers}
+use Rattle.mask.specs.Bits.{Bits, no_bits, numbers}
 use Rattle.digits.specs.Digits.{starts_hex}
 use Rattle.masktext.specs.Text.{mask_text}
 use Rattle.rules.specs.declared.Configuration.{Configuration}
@@ -19,11 +18,6 @@ when_good (refused e) next = refused e
 -- a mask in its hex form alone
 unfoldable pub hex_text : List ℕ → Outcome Bits
 hex_text w = cond (starts_hex w) (mask_text w no_bits) (refused Einval)
-
--- what a mask's reading comes to
-unfoldable pub mask_outcome : Result Mask Errno → Outcome Bits
-mask_outcome (Ok m) = granted (bits m)
-mask_outcome (Err e) = refused e
 
 -- the mask with some bits
 abbrev pub mask_with : Bits → Mask

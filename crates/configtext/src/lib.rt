@@ -5,8 +5,9 @@
 
 ghost use Rattle.std.specs.Prelude.{◌≡◌};
 ghost use Rattle.errno.specs.Outcome.{outcome};
+ghost use Rattle.masktext.specs.Text as Text;
 ghost use Rattle.split.specs.Cut.{cut};
-ghost use Rattle.configtext.specs.ConfigText.{hex_text, four_text, config_text, mask_outcome};
+ghost use Rattle.configtext.specs.ConfigText.{hex_text, four_text, config_text};
 
 use errno::Errno;
 use mask::Mask;
@@ -56,15 +57,10 @@ fn four(
 
 // A mask in its hex form.
 fn hex_mask(word: &[u8]) -> Result<Mask, Errno>
-    ensures { mask_outcome result ≡ hex_text word.now }
+    ensures { Text.outcome result ≡ hex_text word.now }
 {
     if !digits::starts_hex(word) {
         return Err(Errno::Einval);
     }
-    let read = masktext::parse(word, Mask::empty());
-    if read.good {
-        let mask = read.mask;
-        return Ok(mask);
-    }
-    Err(Errno::Einval)
+    masktext::parse(word, Mask::empty())
 }

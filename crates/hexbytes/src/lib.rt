@@ -3,8 +3,10 @@
 // Rests on errno, digits, masktext, rules and fields.
 #![tactic(auto)]
 
-ghost use Rattle.std.specs.Prelude.{◌≡◌};
+ghost use Rattle.std.specs.Prelude.{◌≡◌, ◌<◌, ◌≤◌, MatchResult};
 ghost use Rattle.errno.specs.Outcome.{outcome};
+ghost use Rattle.errno.specs.declared.Errno.TheVariants.{Einval};
+ghost use Rattle.digits.specs.Digits.{digit_of};
 ghost use Rattle.hexbytes.specs.HexBytes.{bytes_text, id_text, types_text};
 
 use errno::Errno;
@@ -39,15 +41,17 @@ fn bytes<const N: usize>(s: &[u8]) -> Result<[u8; N], Errno>
     let mut out = [0u8; N];
     for (i, byte) in out.iter_mut().enumerate() {
         // Each digit is judged before the next is read: compilers then leave the test out for 0 to 9.
-        let high = digits::digit_of(s[2 * i]);
-        if 15 < high {
-            return Err(Errno::Einval);
-        }
-        let low = digits::digit_of(s[2 * i + 1]);
-        if 15 < low {
-            return Err(Errno::Einval);
-        }
+        let high = hex(s[2 * i])?;
+        let low = hex(s[2 * i + 1])?;
         *byte = high * 16 + low;
     }
     Ok(out)
+}
+
+// The value of a hex digit.
+#[tactic(auto, using(std::proofs::lemmas::Bool::Decides::nat_tests), unfolding(digits::specs::Digits::digit_found))]
+fn hex(c: u8) -> Result<u8, Errno>
+    ensures { MatchResult result (λ d. (d ≡ digit_of c) × (d < 16)) (λ e. (e ≡ Einval) × (16 ≤ digit_of c)) }
+{
+    digits::digit_of(c).ok_or(Errno::Einval)
 }

@@ -8,7 +8,6 @@ ghost use Rattle.errno.specs.Outcome.{outcome};
 ghost use Rattle.wordtext.specs.Words.{kind_text, byte_text};
 
 use errno::Errno;
-use number::Number;
 use rules::Kind;
 
 pub fn kind(y: &[u8]) -> Result<Kind, Errno>
@@ -30,9 +29,6 @@ pub fn kind(y: &[u8]) -> Result<Kind, Errno>
 pub fn byte(x: &[u8]) -> Result<u8, Errno>
     ensures { outcome result ≡ byte_text x.now }
 {
-    let n = match number::parse(x) {
-        Number::Value(n) => n,
-        Number::Bad => return Err(Errno::Einval),
-    };
+    let n = number::parse(x)?;
     u8::try_from(n).or(Err(Errno::Einval))
 }

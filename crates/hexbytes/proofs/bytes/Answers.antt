@@ -1,7 +1,9 @@
 -- `bytes` meets its contract. The invariant: what is found of the text up to byte i.
 use native.Mathlib.Omega.{arith}
+use mathlib.Core.Path.{refl, ap, ◌∙◌}
 use lib.ListN.{length-replicate}
-use Rattle.errno.specs.Outcome.{outcome}
+use Rattle.errno.specs.Outcome.{refused, outcome}
+use Rattle.errno.proofs.Outcomes.{passed}
 use Rattle.hexbytes.proofs.Laws.{other_length, starts, bad_high, bad_low, goes_on, full}
 use Rattle.hexbytes.proofs.bytes.Goals as goal
 
@@ -16,16 +18,23 @@ returns-then-s-ne0 g c = other_length _ _ (λ e. absurd (c.if-s-ne0.true (omega 
 pub loop-i-init : goal.loop-i-init
 loop-i-init g c = starts _ _ (length-replicate g.row.N 0) (omega arith)
 
-pub returns-then-high-gt15 : goal.returns-then-high-gt15
+pub returns-in_err-high : goal.returns-in_err-high
 unfolding outcome
-returns-then-high-gt15 g c = bad_high c.loop-i.invariant (omega arith) c.digit_of-high.ensures (omega arith)
+returns-in_err-high g c =
+    rw (passed _ _ c.from_residual.ensures.1)
+    (ap refused c.in_err-high.ensures.0 ∙ bad_high c.loop-i.invariant (omega arith) refl (omega (arith, c.in_err-high.ensures.1)))
 
-pub returns-then-low-gt15 : goal.returns-then-low-gt15
+pub returns-in_err-low : goal.returns-in_err-low
 unfolding outcome
-returns-then-low-gt15 g c = bad_low c.loop-i.invariant (omega arith) c.digit_of-high.ensures c.digit_of-low.ensures (omega arith) (omega arith)
+returns-in_err-low g c =
+    rw (passed _ _ c.from_residual-in_err-low.ensures.1)
+    (ap refused c.in_err-low.ensures.0
+    ∙ bad_low c.loop-i.invariant (omega arith) c.in_ok-high.ensures.0 refl (omega (arith, c.in_ok-high.ensures.1)) (omega (arith, c.in_err-low.ensures.1)))
 
 pub loop-i-preserved : goal.loop-i-preserved
-loop-i-preserved g c = goes_on c.loop-i.invariant (omega arith) c.digit_of-high.ensures c.digit_of-low.ensures (omega arith) (omega arith)
+loop-i-preserved g c =
+    goes_on c.loop-i.invariant (omega arith) c.in_ok-high.ensures.0 c.in_ok-low.ensures.0 (omega (arith, c.in_ok-high.ensures.1))
+    (omega (arith, c.in_ok-low.ensures.1))
 
 pub returns : goal.returns
 unfolding outcome
