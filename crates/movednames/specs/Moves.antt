@@ -1,7 +1,7 @@
 -- What a move did, as a word.
 -- The rules: RULES.md, "Moves".
 -- Assumes nothing.
-use Rattle.std.specs.Prelude.{ℕ, List, ◌≡◌}
+use Rattle.std.specs.Prelude.{ℕ, List, Option}
 use Rattle.std.specs.Borrow.{MutBor}
 use Rattle.errno.specs.Ascii.{ascii}
 use Rattle.names.specs.Names.{NamedBy, CaseBy}
@@ -16,8 +16,8 @@ moved_word Released = ascii "released"
 moved_word BoundHost = ascii "host"
 moved_word BoundPassthrough = ascii "passthrough"
 
--- the case that has the value, where one has it
-abbrev pub CaseOf : ℕ → Moved → Type 0
+-- the case that has the value, or none
+abbrev pub CaseOf : ℕ → Option Moved → Type 0
 CaseOf value r = CaseBy moved_number value r
 
 -- the word of a move's number, of lent memory at entry and at exit

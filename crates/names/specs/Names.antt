@@ -1,17 +1,17 @@
 -- The name of an errno value, given the number.
 -- The rules: RULES.md, "Refusals".
 -- Assumes nothing.
-use Rattle.std.specs.Prelude.{ℕ, List, ◌≡◌, length}
+use Rattle.std.specs.Prelude.{ℕ, List, ◌≡◌, ◌↔◌, length, Option, Some}
 use Rattle.std.specs.Borrow.{MutBor}
 use Rattle.errno.specs.declared.Errno.{Errno}
 use Rattle.errno.specs.Errno.{number_of, name_of, padded}
 
--- r is what has the value, where anything has it
-abbrev pub CaseBy : {A : Type 0} → (A → ℕ) → ℕ → A → Type 0
-CaseBy {A} number_of value r = (e : A) → value ≡ number_of e → r ≡ e
+-- r is what has the value, or none where nothing has it
+abbrev pub CaseBy : {A : Type 0} → (A → ℕ) → ℕ → Option A → Type 0
+CaseBy {A} number_of value r = (e : A) → (value ≡ number_of e) ↔ (r ≡ Some e)
 
 -- the case that has an errno value
-abbrev pub CaseOf : ℕ → Errno → Type 0
+abbrev pub CaseOf : ℕ → Option Errno → Type 0
 CaseOf value r = CaseBy number_of value r
 
 -- the name of what has the value, as names go by `name_of` and values by `number_of`: r is its length; where nothing has the value r

@@ -3,6 +3,8 @@
 // Rests on errno.
 #![tactic(auto)]
 
+ghost use Rattle.std.specs.Prelude.{◌≡◌, min, length, take};
+ghost use Rattle.errno.specs.Errno.{padded};
 ghost use Rattle.names.specs.Names.{CaseOf, NameShown};
 
 use errno::{Errno, NAME_BYTES};
@@ -11,30 +13,36 @@ use errno::{Errno, NAME_BYTES};
 pub fn errno_name(value: u64, out: &mut [u8; NAME_BYTES]) -> usize
     ensures { NameShown value out.entry out.exit result }
 {
-    let e = errno_of(value);
-    let n = errno::number(e);
-    if n as u64 != value {
-        return 0;
+    match errno_of(value) {
+        Some(e) => write(errno::name(e), out),
+        None => 0,
     }
-    let name = errno::name(e);
-    let bytes = name.bytes;
-    *out = bytes;
-    name.len
 }
 
-// The case with an errno value; of any other number the first.
-fn errno_of(value: u64) -> Errno
+// Writes a name and zeros after it, and gives its length. A name that is too long for the buffer is cut off.
+pub fn write(name: &[u8], out: &mut [u8; NAME_BYTES]) -> usize
+    ensures { (result ≡ min (length name.now) NAME_BYTES) × (out.new ≡ padded (take NAME_BYTES name.now)) }
+{
+    let n = name.len().min(NAME_BYTES);
+    *out = [0; NAME_BYTES];
+    out[..n].copy_from_slice(&name[..n]);
+    n
+}
+
+// The case with an errno value.
+#[tactic(auto, unfolding(errno::specs::Errno::number_of))]
+fn errno_of(value: u64) -> Option<Errno>
     ensures { CaseOf value result }
 {
     match value {
-        2 => Errno::Enoent,
-        16 => Errno::Ebusy,
-        17 => Errno::Eexist,
-        19 => Errno::Enodev,
-        22 => Errno::Einval,
-        28 => Errno::Enospc,
-        98 => Errno::Eaddrinuse,
-        99 => Errno::Eaddrnotavail,
-        _ => Errno::Enoent,
+        2 => Some(Errno::Enoent),
+        16 => Some(Errno::Ebusy),
+        17 => Some(Errno::Eexist),
+        19 => Some(Errno::Enodev),
+        22 => Some(Errno::Einval),
+        28 => Some(Errno::Enospc),
+        98 => Some(Errno::Eaddrinuse),
+        99 => Some(Errno::Eaddrnotavail),
+        _ => None,
     }
 }

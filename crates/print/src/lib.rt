@@ -27,32 +27,21 @@ pub fn text(rt: &impl Print, s: &[u8]) -> io::Result<usize>
 pub fn first(rt: &impl Print, s: &[u8], n: usize) -> io::Result<usize>
     ensures { IfOk result (λ r. r ≡ min n (length s.now)) }
 {
-    if s.len() <= n {
-        return text(rt, s);
-    }
-    text(rt, &s[..n])
+    text(rt, &s[..s.len().min(n)])
 }
 
 // A text with each newline as \n, so that it stays on its line. Answers the length of the text itself.
 pub fn escaped(rt: &impl Print, s: &[u8]) -> io::Result<usize>
     ensures { IfOk result (λ r. r ≡ length s.now) }
 {
-    let mut i = 0usize;
-    while i < s.len() {
-        escaped_byte(rt, s[i])?;
-        i += 1;
+    for c in s {
+        if *c == b'\n' {
+            text(rt, b"\\n")?;
+        } else {
+            text(rt, &[*c])?;
+        }
     }
-    Ok(i)
-}
-
-fn escaped_byte(rt: &impl Print, c: u8) -> io::Result<()> {
-    if c == b'\n' {
-        text(rt, b"\\n")?;
-    } else {
-        let one = [c];
-        text(rt, &one)?;
-    }
-    Ok(())
+    Ok(s.len())
 }
 
 // A line of a label and a number in decimal. Answers how many digits that took.
@@ -95,9 +84,7 @@ pub fn answer(rt: &impl Print, done: &[u8], refused: &[u8], a: Answer) -> io::Re
 pub fn name(rt: &impl Print, e: Errno) -> io::Result<u8>
     ensures { IfOk result (λ r. r ≡ number_of e) }
 {
-    let name = errno::name(e);
-    let bytes = name.bytes;
-    first(rt, &bytes, name.len)?;
+    text(rt, errno::name(e))?;
     Ok(errno::number(e))
 }
 
@@ -107,12 +94,9 @@ pub fn masks(rt: &impl Print, m: Masks) -> io::Result<u32>
     ensures { IfOk result (λ r. r ≡ count_below 256 (bits m.adapters) + count_below 256 (bits m.domains)
         + count_below 256 (bits m.controls)) }
 {
-    let adapters = m.adapters;
-    let domains = m.domains;
-    let controls = m.controls;
-    let a = mask_bits(rt, b" adapters", adapters)?;
-    let d = mask_bits(rt, b" domains", domains)?;
-    let c = mask_bits(rt, b" controls", controls)?;
+    let a = mask_bits(rt, b" adapters", m.adapters)?;
+    let d = mask_bits(rt, b" domains", m.domains)?;
+    let c = mask_bits(rt, b" controls", m.controls)?;
     Ok(a + d + c)
 }
 
@@ -121,10 +105,8 @@ pub fn mask_bits(rt: &impl Print, label: &[u8], m: Mask) -> io::Result<u32>
     ensures { IfOk result (λ r. r ≡ count_below 256 (bits m)) }
 {
     text(rt, label)?;
-    let mut i = 0usize;
-    while i < 256 {
-        bit(rt, m, (i % 256) as u8)?;
-        i += 1;
+    for i in 0..=255u8 {
+        bit(rt, m, i)?;
     }
     text(rt, b"\n")?;
     Ok(masks::count(m))
@@ -133,7 +115,7 @@ pub fn mask_bits(rt: &impl Print, label: &[u8], m: Mask) -> io::Result<u32>
 fn bit(rt: &impl Print, m: Mask, i: u8) -> io::Result<()> {
     if m.has(i) {
         text(rt, b" ")?;
-        decimal(rt, i as u64)?;
+        decimal(rt, u64::from(i))?;
     }
     Ok(())
 }
