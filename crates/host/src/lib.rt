@@ -3,12 +3,14 @@
 // Rests on errno, mask, masktext, rules, product, layout, record, store and lookup.
 #![tactic(auto)]
 
-ghost use Rattle.std.specs.Prelude.{cond};
+ghost use Rattle.std.specs.Prelude.{◌≡◌};
+ghost use Rattle.mask.specs.Bits.{bits, Sized};
+ghost use Rattle.masktext.specs.Text.{mask_text};
 ghost use Rattle.rules.specs.Commands.{set_apmask, set_aqmask};
-ghost use Rattle.layout.specs.Layout.{apmask_at, aqmask_at};
+ghost use Rattle.layout.specs.Lent.{devices};
 ghost use Rattle.layout.specs.Carried.{Obeys};
 ghost use Rattle.product.specs.Meet.{queues_of};
-ghost use Rattle.host.specs.Masks.{with_apmask, with_aqmask, Sets};
+ghost use Rattle.host.specs.Masks.{with_apmask, with_aqmask, said, unassigned};
 
 use errno::Errno;
 use layout::{SLOTS, Words};
@@ -21,13 +23,14 @@ pub fn set_apmask(words: &mut Words, text: &[u8]) -> Answer
 {
     layout::hold_words(words);
     let old = record::apmask(words);
-    let new = masktext::parse(text, old);
-    let m = new.mask;
+    let m = read(text, old)?;
     let reserved = Product {
         adapters: m,
         domains: record::aqmask(words),
     };
-    set(words, true, new.good, m, reserved)
+    unassigned(words, reserved)?;
+    store::put_apmask(words, m);
+    Ok(())
 }
 
 pub fn set_aqmask(words: &mut Words, text: &[u8]) -> Answer
@@ -35,29 +38,35 @@ pub fn set_aqmask(words: &mut Words, text: &[u8]) -> Answer
 {
     layout::hold_words(words);
     let old = record::aqmask(words);
-    let new = masktext::parse(text, old);
-    let m = new.mask;
+    let m = read(text, old)?;
     let reserved = Product {
         adapters: record::apmask(words),
         domains: m,
     };
-    set(words, false, new.good, m, reserved)
+    unassigned(words, reserved)?;
+    store::put_aqmask(words, m);
+    Ok(())
 }
 
-// Sets apmask, or else aqmask, if its text was good and no queue that is then reserved is assigned.
-fn set(words: &mut Words, adapters: bool, good: bool, mask: Mask, reserved: Product) -> Answer
-    ensures { Sets (cond adapters apmask_at aqmask_at) good mask (queues_of reserved) words.entry words.exit result }
+// The mask that a text says of the old one.
+fn read(text: &[u8], old: Mask) -> Result<Mask, Errno>
+    ensures { said result ≡ mask_text text.now (bits old) }
 {
-    if !good {
-        return Answer::Refused(Errno::Einval);
+    let new = masktext::parse(text, old);
+    if new.good {
+        Ok(new.mask)
+    } else {
+        Err(Errno::Einval)
     }
+}
+
+// Queues that are to be reserved are refused if one of them is assigned. Their masks have four words each.
+fn unassigned(words: &Words, reserved: Product) -> Answer
+    ensures answer { result ≡ unassigned (queues_of reserved) (devices words.entry) }
+    ensures sized { Sized 64 4 reserved.adapters.words × Sized 64 4 reserved.domains.words }
+{
     if lookup::taken(words, SLOTS, reserved) {
-        return Answer::Refused(Errno::Eaddrinuse);
+        return Err(Errno::Eaddrinuse);
     }
-    if adapters {
-        store::put_apmask(words, mask);
-        return Answer::Done;
-    }
-    store::put_aqmask(words, mask);
-    Answer::Done
+    Ok(())
 }

@@ -1,13 +1,49 @@
--- `set_aqmask` meets its contract, by `set`.
-use Rattle.host.proofs.Laws.{set_aqmask_lem}
+-- `set_aqmask` meets its contract: a refusal of the text or of the queues, or the effect.
+use Rattle.std.proofs.Common.{ℕ, List, ap, refl, ◌∙◌}
+use Rattle.std.proofs.lemmas.Result.{err_from_is_err_and}
+use Rattle.mask.specs.Bits.{Bits, bits}
+use Rattle.masktext.specs.Text.{mask_text}
+use Rattle.rules.specs.State.{HostMasks, in_product}
+use Rattle.rules.specs.Queues.{reserved}
+use Rattle.rules.specs.Commands.{set_aqmask}
+use Rattle.layout.specs.Layout.{apmask_at, aqmask_at, mask_at, device_in, host_in, state_in}
+use Rattle.layout.proofs.Laws.{read_aqmask}
+use Rattle.host.specs.Masks.{said, unassigned}
+use Rattle.host.proofs.Laws.{text_refused, mask_refused, mask_set}
 use Rattle.host.proofs.set_aqmask.Goals as goal
 
+-- the host's masks with aqmask replaced
+abbrev host : List ℕ → Bits → HostMasks
+host ws m = record { apmask = mask_at ws apmask_at; aqmask = m }
+
+pub returns-in_err-m : goal.returns-in_err-m
+unfolding set_aqmask state_in host_in said
+returns-in_err-m c =
+    let ws = c.args.words.now in
+    let text = c.args.text.now in
+    let p = err_from_is_err_and c.from_residual.result c.from_residual.ensures.1 in
+    rw (p.1, p.2)
+    (text_refused text ws aqmask_at (host ws) (set_aqmask text) (λ qs. refl) (λ m l qs. read_aqmask ws qs m c.hold_words.ensures.long l)
+    (c.in_err-m.ensures ∙ ap (mask_text text) c.aqmask-old.ensures))
+
+pub returns-in_err-unassigned : goal.returns-in_err-unassigned
+unfolding set_aqmask state_in host_in reserved said
+returns-in_err-unassigned c =
+    let ws = c.args.words.now in
+    let text = c.args.text.now in
+    let p = err_from_is_err_and c.from_residual-in_err-unassigned.result c.from_residual-in_err-unassigned.ensures.1 in
+    rw (p.1, p.2)
+    (mask_refused text ws aqmask_at (host ws) (set_aqmask text) (λ qs. refl) (λ m l qs. read_aqmask ws qs m c.hold_words.ensures.long l)
+    c.in_ok-m.m (c.in_ok-m.ensures ∙ ap (mask_text text) c.aqmask-old.ensures)
+    (c.in_err-unassigned.ensures.answer ∙ ap (λ (m : Bits). unassigned (in_product m (bits c.in_ok-m.m)) (device_in ws)) c.apmask.ensures))
+
 pub returns : goal.returns
+unfolding set_aqmask state_in host_in reserved said
 returns c =
-    let other = c in
-    let got = other in
-    let was = got in
-    let held = was in
-    let a = held.args in
-    set_aqmask_lem a.text.now a.words.now held.hold_words.ensures was.aqmask-old.result other.apmask.result got.parse-new.result got.parse-new.ensures.result_value
-    got.parse-new.type_inv _ _ was.aqmask-old.ensures other.apmask.ensures c.set.ensures.0 c.set.ensures.1
+    let ws = c.args.words.now in
+    let text = c.args.text.now in
+    mask_set text ws aqmask_at (host ws) (set_aqmask text) (λ qs. refl) (λ m l qs. read_aqmask ws qs m c.hold_words.ensures.long l)
+    c.in_ok-m.m (c.in_ok-m.ensures ∙ ap (mask_text text) c.aqmask-old.ensures)
+    (c.in_ok-unassigned.ensures.answer ∙ ap (λ (m : Bits). unassigned (in_product m (bits c.in_ok-m.m)) (device_in ws)) c.apmask.ensures)
+    c.in_ok-unassigned.ensures.sized.1
+    c.put_aqmask.ensures
