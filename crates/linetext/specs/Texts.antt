@@ -1,6 +1,6 @@
 -- What is read as a command has good text: no record can refuse it for that (RULES.md, "Console").
 -- Assumes nothing.
-use Rattle.std.specs.Prelude.{ℕ, List, ◌≡◌}
+use Rattle.std.specs.Prelude.{◌≡◌}
 use Rattle.errno.specs.Outcome.{Outcome, granted}
 use Rattle.mask.specs.Bits.{Bits}
 use Rattle.number.specs.Text.{number_text}

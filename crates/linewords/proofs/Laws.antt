@@ -1,50 +1,52 @@
--- What a `Parsed` asks for, and text that is good or bad.
+-- Text that is good, and text that is bad.
 -- Assumes nothing.
-use Prim.Native.Nat.{ℕ, ◌≤◌}
+use Prim.Native.Nat.{ℕ}
 use mathlib.Core.List.{List}
-use mathlib.Core.Path.{◌≡◌, ap, ◌∙◌}
-use lib.ListN.{drop}
-use borrow.Author.Tests.{le-leb}
+use mathlib.Core.Path.{◌≡◌, sym, ap, ◌∙◌}
 use Rattle.errno.specs.Outcome.{Outcome, granted, refused}
-use Rattle.errno.specs.declared.Errno.TheVariants.{Einval}
+use Rattle.errno.specs.declared.Errno.{Errno}
+use Rattle.number.specs.Text.{number_text}
 use Rattle.rules.specs.declared.Id.{Id}
 use Rattle.rules.specs.declared.Kind.{Kind}
-use Rattle.rules.specs.declared.Kind.TheVariants.{Adapter}
-use Rattle.rules.specs.Queues.{most_moves}
-use Rattle.encoding.specs.Encoding.{command, sweep, command_of}
-use Rattle.split.specs.Cut.{cut}
+use Rattle.model.specs.Steps as Steps
+use Rattle.encoding.specs.Encoding.{Request, command}
+use Rattle.hexbytes.specs.HexBytes.{id_text}
+use Rattle.wordtext.specs.Words.{kind_text}
 use Rattle.configtext.specs.ConfigText.{when_good}
-use Rattle.wordtext.specs.Words.{bad}
-use Rattle.linewords.specs.declared.Parsed.{Parsed}
-use Rattle.linewords.specs.Requests.{for_config}
-use Rattle.linewords.specs.Parsed.{asked, parsed, no_id}
-
--- ---- what a `Parsed` asks for
-
-pub asked_command : (line : List ℕ) (op : ℕ) (k : Kind) (i : Id) (at : ℕ) {r : Parsed} → op ≤ 7 → r ≡ parsed op k i at
-    → asked line r ≡ granted (command (command_of op k i (drop at line)))
-unfolding asked
-asked_command line op k i at h e = ap (asked line) e ∙ rw (le-leb op 7 h)
-
-pub asked_config : (line : List ℕ) (at : ℕ) {r : Parsed} → r ≡ parsed 8 Adapter no_id at → asked line r ≡ for_config (cut 32 (drop at line))
-unfolding asked
-asked_config line at e = ap (asked line) e
-
-pub asked_sweep : (line : List ℕ) {r : Parsed} → r ≡ parsed 10 Adapter no_id 0 → asked line r ≡ granted (sweep most_moves)
-unfolding asked
-asked_sweep line e = ap (asked line) e
-
-pub asked_bad : (line : List ℕ) {r : Parsed} → r ≡ parsed 11 Adapter no_id 0 → asked line r ≡ bad
-unfolding asked
-asked_bad line e = ap (asked line) e
-
--- ---- text that is good, and text that is bad
+use Rattle.linewords.specs.Asked.{Numbered, NotNumbered}
 
 module _ {A B : Type 0} (f : A → Outcome B) {o : Outcome A} where
-  pub when_good_lem : {x : A} → o ≡ granted x → when_good o f ≡ f x
+  pub when_good_lem : {x : A} → granted x ≡ o → f x ≡ when_good o f
   unfolding when_good
   when_good_lem e = ap (λ (p : Outcome A). when_good p f) e
 
-  pub when_bad : o ≡ refused Einval → when_good o f ≡ refused Einval
+  pub when_bad : {e : Errno} → refused e ≡ o → refused e ≡ when_good o f
   unfolding when_good
   when_bad e = ap (λ (p : Outcome A). when_good p f) e
+
+-- an id, a kind and a number: the first that is bad, and all three good
+module _ (x y z : List ℕ) where
+  -- what comes of a good id, and of a good kind after it
+  id_then : (Kind → Id → List ℕ → Steps.Command) → Id → Outcome Request
+  id_then f i = when_good (kind_text y) (λ k. when_good (number_text z) (λ n. granted (command (f k i z))))
+
+  kind_then : (Kind → Id → List ℕ → Steps.Command) → Id → Kind → Outcome Request
+  kind_then f i k = when_good (number_text z) (λ n. granted (command (f k i z)))
+
+  pub first_bad : {e : Errno} → refused e ≡ id_text x → NotNumbered x y z e
+  unfolding id_then
+  first_bad h f = sym (when_bad (id_then f) h)
+
+  pub second_bad : {i : Id} {e : Errno} → granted i ≡ id_text x → refused e ≡ kind_text y → NotNumbered x y z e
+  unfolding id_then kind_then
+  second_bad {i} g h f = sym (when_bad (kind_then f i) h ∙ when_good_lem (id_then f) g)
+
+  pub third_bad : {i : Id} {k : Kind} {e : Errno} → granted i ≡ id_text x → granted k ≡ kind_text y → refused e ≡ number_text z → NotNumbered x y z e
+  unfolding id_then kind_then
+  third_bad {i} {k} g h m f =
+      sym (when_bad (λ (n : ℕ). granted (command (f k i z))) m ∙ when_good_lem (kind_then f i) h ∙ when_good_lem (id_then f) g)
+
+  pub all_good : {i : Id} {k : Kind} {n : ℕ} → granted i ≡ id_text x → granted k ≡ kind_text y → granted n ≡ number_text z → Numbered x y z k i
+  unfolding id_then kind_then
+  all_good {i} {k} g h m f =
+      sym (when_good_lem (λ (n : ℕ). granted (command (f k i z))) m ∙ when_good_lem (kind_then f i) h ∙ when_good_lem (id_then f) g)

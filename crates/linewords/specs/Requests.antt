@@ -10,6 +10,7 @@ use Rattle.rules.specs.declared.Kind.{Kind}
 use Rattle.rules.specs.Queues.{most_moves}
 use Rattle.model.specs.Steps.{Command, create, remove, open_it, close_it, assign, unassign, set_apmask, set_aqmask, configure}
 use Rattle.encoding.specs.Encoding.{Request, command, move, sweep}
+use Rattle.split.specs.Cut.{cut}
 use Rattle.wordtext.specs.Words.{is, bad, kind_text, byte_text}
 use Rattle.hexbytes.specs.HexBytes.{id_text}
 use Rattle.configtext.specs.ConfigText.{when_good, config_text}
@@ -33,6 +34,10 @@ for_move x y = when_good (byte_text x) (λ a. when_good (byte_text y) (λ d. gra
 -- a configuration
 abbrev pub for_config : List (List ℕ) → Outcome Request
 for_config ws = when_good (config_text ws) (λ c. granted (command (configure c)))
+
+-- the request of a first word and all that follows, of four words or more: a configuration
+abbrev pub by_many : List ℕ → List ℕ → Outcome Request
+by_many w rest = cond (is w "config") (for_config (cut 32 rest)) bad
 
 -- the request of a line's words: a word that is unknown, or not with so many after it, is bad text
 unfoldable pub by_words : List (List ℕ) → Outcome Request

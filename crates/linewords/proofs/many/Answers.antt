@@ -1,29 +1,28 @@
 -- `many` meets its contract.
-use mathlib.Core.Path.{sym, ap, ◌∙◌}
-use Prim.Native.Nat.{ℕ}
-use mathlib.Core.List.{List}
+use mathlib.Core.Path.{sym, ◌∙◌}
+use Rattle.std.proofs.lemmas.Result.{err_from_is_err_and}
 use Rattle.errno.specs.Ascii.{ascii}
-use Rattle.split.specs.Cut.{cut}
-use Rattle.configtext.specs.ConfigText.{config_read}
-use Rattle.linewords.specs.Requests.{for_config}
-use Rattle.configtext.proofs.Laws.{told_bad}
-use Rattle.wordtext.proofs.Laws.{first_yes, first_no}
-use Rattle.linewords.proofs.Laws.{asked_config, asked_bad, when_bad}
+use Rattle.errno.specs.Outcome.{outcome}
+use Rattle.encoding.specs.Meant.{meant}
+use Rattle.configtext.specs.ConfigText.{mask_outcome}
+use Rattle.wordtext.proofs.Laws.{is_word, first_yes, first_no}
+use Rattle.linewords.specs.Requests.{by_words}
+use Rattle.linewords.specs.Asked.{asked}
+use Rattle.linewords.proofs.Laws.{when_bad}
 use Rattle.linewords.proofs.many.Goals as goal
 
-pub returns-then-not-is : goal.returns-then-not-is
-unfolding config_read ascii
-returns-then-not-is c = λ line h. asked_bad line c.only.ensures ∙ sym (first_no _ (sym c.is.ensures ∙ c.if-not-is.true))
+pub returns-in_err-read : goal.returns-in_err-read
+unfolding ascii asked by_words meant outcome mask_outcome
+returns-in_err-read c =
+    let p = err_from_is_err_and c.from_residual.result c.from_residual.ensures.1 in rw (p.1, p.2)
+    (when_bad _ c.in_err-read.ensures ∙ sym (first_yes _ (is_word _ "config" c.eq.ensures c.as_slice.ensures ∙ c.if-eq.true)))
 
-pub returns-then-read : goal.returns-then-read
-unfolding config_read ascii
-returns-then-read c = λ line h.
-    asked_config line c.args.at c.at_text.ensures ∙ ap (λ (t : List ℕ). for_config (cut 32 t)) h
-    ∙ sym (first_yes _ (sym c.is.ensures ∙ c.if-not-is.false))
+pub returns-then-eq : goal.returns-then-eq
+unfolding ascii asked by_words meant outcome mask_outcome
+returns-then-eq c =
+    sym (first_yes _ (is_word _ "config" c.eq.ensures c.as_slice.ensures ∙ c.if-eq.true))
 
 pub returns : goal.returns
-unfolding config_read ascii
-returns c = λ line h.
-    asked_bad line c.only-2.ensures
-    ∙ sym (first_yes _ (sym c.is.ensures ∙ c.if-not-is.false)
-    ∙ when_bad _ (told_bad c.read.result.good c.read.result.configuration c.read.ensures.is c.if-read.false))
+unfolding ascii asked by_words meant outcome mask_outcome
+returns c =
+    sym (first_no _ (is_word _ "config" c.eq.ensures c.as_slice.ensures ∙ c.if-eq.false))

@@ -1,15 +1,20 @@
 -- `one` meets its contract.
 use mathlib.Core.Path.{sym, ◌∙◌}
 use Rattle.errno.specs.Ascii.{ascii}
+use Rattle.errno.specs.Outcome.{outcome}
+use Rattle.encoding.specs.Meant.{meant}
+use Rattle.configtext.specs.ConfigText.{mask_outcome}
+use Rattle.wordtext.proofs.Laws.{is_word, first_yes, first_no}
 use Rattle.linewords.specs.Requests.{by_words}
-use Rattle.wordtext.proofs.Laws.{first_yes, first_no}
-use Rattle.linewords.proofs.Laws.{asked_sweep, asked_bad}
+use Rattle.linewords.specs.Asked.{asked}
 use Rattle.linewords.proofs.one.Goals as goal
 
-pub returns-then-is : goal.returns-then-is
-unfolding by_words ascii
-returns-then-is c = λ line. asked_sweep line c.only.ensures ∙ sym (first_yes _ (sym c.is.ensures ∙ c.if-is.true))
+pub returns-then-eq : goal.returns-then-eq
+unfolding ascii asked by_words meant outcome mask_outcome
+returns-then-eq c =
+    sym (first_yes _ (is_word _ "sweep" c.eq.ensures c.as_slice.ensures ∙ c.if-eq.true))
 
 pub returns : goal.returns
-unfolding by_words ascii
-returns c = λ line. asked_bad line c.only-2.ensures ∙ sym (first_no _ (sym c.is.ensures ∙ c.if-is.false))
+unfolding ascii asked by_words meant outcome mask_outcome
+returns c =
+    sym (first_no _ (is_word _ "sweep" c.eq.ensures c.as_slice.ensures ∙ c.if-eq.false))
