@@ -1,12 +1,10 @@
 -- What setting a host mask checks, and what it leaves in memory.
 -- The rules: RULES.md, "Commands".
 -- Assumes nothing.
-use Rattle.std.specs.Prelude.{ℕ, cond, List, Result, Ok, Err}
+use Rattle.std.specs.Prelude.{ℕ, cond, List, Ok, Err}
 use Rattle.errno.specs.Outcome.{Outcome, granted, refused}
-use Rattle.errno.specs.declared.Errno.{Errno}
 use Rattle.errno.specs.declared.Errno.TheVariants.{Eaddrinuse}
-use Rattle.mask.specs.declared.Mask.{Mask}
-use Rattle.mask.specs.Bits.{Bits, bits, some_below, both}
+use Rattle.mask.specs.Bits.{Bits, some_below, both}
 use Rattle.masktext.specs.Text.{mask_text}
 use Rattle.rules.specs.State.{Devices, queues}
 use Rattle.rules.specs.Commands.{Answer, assigned}
@@ -29,11 +27,6 @@ abbrev pub with_aqmask : List ℕ → List ℕ → List ℕ
 with_aqmask = with_mask aqmask_at
 
 -- ---- for private functions
-
--- the outcome of reading a mask, by its bits
-unfoldable pub said : Result Mask Errno → Outcome Bits
-said (Ok m) = granted (bits m)
-said (Err e) = refused e
 
 -- the answer for queues that are to be reserved: EADDRINUSE if one is assigned
 unfoldable pub unassigned : Bits → Devices → Answer

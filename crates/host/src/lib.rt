@@ -4,17 +4,15 @@
 #![tactic(auto)]
 
 ghost use Rattle.std.specs.Prelude.{◌≡◌};
-ghost use Rattle.mask.specs.Bits.{bits, Sized};
-ghost use Rattle.masktext.specs.Text.{mask_text};
+ghost use Rattle.mask.specs.Bits.{Sized};
 ghost use Rattle.rules.specs.Commands.{set_apmask, set_aqmask};
 ghost use Rattle.layout.specs.Lent.{devices};
 ghost use Rattle.layout.specs.Carried.{Obeys};
 ghost use Rattle.product.specs.Meet.{queues_of};
-ghost use Rattle.host.specs.Masks.{with_apmask, with_aqmask, said, unassigned};
+ghost use Rattle.host.specs.Masks.{with_apmask, with_aqmask, unassigned};
 
 use errno::Errno;
 use layout::{SLOTS, Words};
-use mask::Mask;
 use product::Product;
 use rules::Answer;
 
@@ -23,7 +21,7 @@ pub fn set_apmask(words: &mut Words, text: &[u8]) -> Answer
 {
     layout::hold_words(words);
     let old = record::apmask(words);
-    let m = read(text, old)?;
+    let m = masktext::parse(text, old)?;
     let reserved = Product {
         adapters: m,
         domains: record::aqmask(words),
@@ -38,7 +36,7 @@ pub fn set_aqmask(words: &mut Words, text: &[u8]) -> Answer
 {
     layout::hold_words(words);
     let old = record::aqmask(words);
-    let m = read(text, old)?;
+    let m = masktext::parse(text, old)?;
     let reserved = Product {
         adapters: record::apmask(words),
         domains: m,
@@ -46,18 +44,6 @@ pub fn set_aqmask(words: &mut Words, text: &[u8]) -> Answer
     unassigned(words, reserved)?;
     store::put_aqmask(words, m);
     Ok(())
-}
-
-// The mask that a text says of the old one.
-fn read(text: &[u8], old: Mask) -> Result<Mask, Errno>
-    ensures { said result ≡ mask_text text.now (bits old) }
-{
-    let new = masktext::parse(text, old);
-    if new.good {
-        Ok(new.mask)
-    } else {
-        Err(Errno::Einval)
-    }
 }
 
 // Queues that are to be reserved are refused if one of them is assigned. Their masks have four words each.

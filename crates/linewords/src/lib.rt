@@ -4,18 +4,15 @@
 #![tactic(auto)]
 
 ghost use Rattle.std.specs.Prelude.{◌≡◌, [], ◌∷◌, MatchResult};
-ghost use Rattle.errno.specs.Outcome.{granted, refused, outcome};
 ghost use Rattle.mask.specs.Bits.{no_bits};
-ghost use Rattle.number.specs.Text.{number_text};
+ghost use Rattle.masktext.specs.Text as Text;
 ghost use Rattle.masktext.specs.Text.{mask_text};
-ghost use Rattle.configtext.specs.ConfigText.{mask_outcome};
 ghost use Rattle.linewords.specs.Requests.{by_words, by_many};
 ghost use Rattle.linewords.specs.Asked.{asked, Numbered, NotNumbered};
 
 use encoding::Command;
 use errno::Errno;
 use mask::{Apid, Apqi, Mask};
-use number::Number;
 use rules::{Id, Kind};
 
 // What a line asks for, with its text lent. A configuration is lent as the text of its four words, which is good.
@@ -102,27 +99,13 @@ fn numbered(x: &[u8], y: &[u8], z: &[u8]) -> Result<(Kind, Id), Errno>
 {
     let id = hexbytes::id(x)?;
     let kind = wordtext::kind(y)?;
-    number(z)?;
+    number::parse(z)?;
     Ok((kind, id))
-}
-
-fn number(z: &[u8]) -> Result<u16, Errno>
-    ensures { outcome result ≡ number_text z.now }
-{
-    match number::parse(z) {
-        Number::Value(n) => Ok(n),
-        Number::Bad => Err(Errno::Einval),
-    }
 }
 
 // The mask of a text, on an empty one.
 fn mask(x: &[u8]) -> Result<Mask, Errno>
-    ensures { mask_outcome result ≡ mask_text x.now no_bits }
+    ensures { Text.outcome result ≡ mask_text x.now no_bits }
 {
-    let read = masktext::parse(x, Mask::empty());
-    if read.good {
-        let mask = read.mask;
-        return Ok(mask);
-    }
-    Err(Errno::Einval)
+    masktext::parse(x, Mask::empty())
 }

@@ -2,13 +2,13 @@
 use Rattle.std.proofs.Common.{ℕ, List, ap, refl, ◌∙◌}
 use Rattle.std.proofs.lemmas.Result.{err_from_is_err_and}
 use Rattle.mask.specs.Bits.{Bits, bits}
-use Rattle.masktext.specs.Text.{mask_text}
+use Rattle.masktext.specs.Text.{outcome, mask_text}
 use Rattle.rules.specs.State.{HostMasks, in_product}
 use Rattle.rules.specs.Queues.{reserved}
 use Rattle.rules.specs.Commands.{set_aqmask}
 use Rattle.layout.specs.Layout.{apmask_at, aqmask_at, mask_at, device_in, host_in, state_in}
 use Rattle.layout.proofs.Laws.{read_aqmask}
-use Rattle.host.specs.Masks.{said, unassigned}
+use Rattle.host.specs.Masks.{unassigned}
 use Rattle.host.proofs.Laws.{text_refused, mask_refused, mask_set}
 use Rattle.host.proofs.set_aqmask.Goals as goal
 
@@ -17,7 +17,7 @@ abbrev host : List ℕ → Bits → HostMasks
 host ws m = record { apmask = mask_at ws apmask_at; aqmask = m }
 
 pub returns-in_err-m : goal.returns-in_err-m
-unfolding set_aqmask state_in host_in said
+unfolding set_aqmask state_in host_in outcome
 returns-in_err-m c =
     let ws = c.args.words.now in
     let text = c.args.text.now in
@@ -27,7 +27,7 @@ returns-in_err-m c =
     (c.in_err-m.ensures ∙ ap (mask_text text) c.aqmask-old.ensures))
 
 pub returns-in_err-unassigned : goal.returns-in_err-unassigned
-unfolding set_aqmask state_in host_in reserved said
+unfolding set_aqmask state_in host_in reserved outcome
 returns-in_err-unassigned c =
     let ws = c.args.words.now in
     let text = c.args.text.now in
@@ -38,7 +38,7 @@ returns-in_err-unassigned c =
     (c.in_err-unassigned.ensures.answer ∙ ap (λ (m : Bits). unassigned (in_product m (bits c.in_ok-m.m)) (device_in ws)) c.apmask.ensures))
 
 pub returns : goal.returns
-unfolding set_aqmask state_in host_in reserved said
+unfolding set_aqmask state_in host_in reserved outcome
 returns c =
     let ws = c.args.words.now in
     let text = c.args.text.now in

@@ -4,7 +4,6 @@ use Rattle.std.proofs.lemmas.Result.{err_from_is_err_and}
 use Rattle.errno.specs.Ascii.{ascii}
 use Rattle.errno.specs.Outcome.{outcome}
 use Rattle.encoding.specs.Meant.{meant}
-use Rattle.configtext.specs.ConfigText.{mask_outcome}
 use Rattle.wordtext.proofs.Laws.{is_word, first_yes, first_no}
 use Rattle.linewords.specs.Requests.{by_words}
 use Rattle.linewords.specs.Asked.{asked}
@@ -12,17 +11,17 @@ use Rattle.linewords.proofs.Laws.{when_bad}
 use Rattle.linewords.proofs.many.Goals as goal
 
 pub returns-in_err-read : goal.returns-in_err-read
-unfolding ascii asked by_words meant outcome mask_outcome
+unfolding ascii asked by_words meant outcome
 returns-in_err-read c =
     let p = err_from_is_err_and c.from_residual.result c.from_residual.ensures.1 in rw (p.1, p.2)
     (when_bad _ c.in_err-read.ensures ∙ sym (first_yes _ (is_word _ "config" c.eq.ensures c.as_slice.ensures ∙ c.if-eq.true)))
 
 pub returns-then-eq : goal.returns-then-eq
-unfolding ascii asked by_words meant outcome mask_outcome
+unfolding ascii asked by_words meant outcome
 returns-then-eq c =
     sym (first_yes _ (is_word _ "config" c.eq.ensures c.as_slice.ensures ∙ c.if-eq.true))
 
 pub returns : goal.returns
-unfolding ascii asked by_words meant outcome mask_outcome
+unfolding ascii asked by_words meant outcome
 returns c =
     sym (first_no _ (is_word _ "config" c.eq.ensures c.as_slice.ensures ∙ c.if-eq.false))

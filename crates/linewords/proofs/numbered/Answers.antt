@@ -16,13 +16,13 @@ returns-in_err-kind c =
     let p = err_from_is_err_and c.from_residual-in_err-kind.result c.from_residual-in_err-kind.ensures.1 in rw (p.1, p.2)
     (second_bad c.args.x.now c.args.y.now c.args.z.now c.in_ok-id.ensures c.in_err-kind.ensures)
 
-pub returns-in_err-number : goal.returns-in_err-number
+pub returns-in_err-parse : goal.returns-in_err-parse
 unfolding outcome
-returns-in_err-number c =
-    let p = err_from_is_err_and c.from_residual-in_err-number.result c.from_residual-in_err-number.ensures.1 in rw (p.1, p.2)
-    (third_bad c.args.x.now c.args.y.now c.args.z.now c.in_ok-id.ensures c.in_ok-kind.ensures c.in_err-number.ensures)
+returns-in_err-parse c =
+    let p = err_from_is_err_and c.from_residual-in_err-parse.result c.from_residual-in_err-parse.ensures.1 in rw (p.1, p.2)
+    (third_bad c.args.x.now c.args.y.now c.args.z.now c.in_ok-id.ensures c.in_ok-kind.ensures c.in_err-parse.ensures)
 
 pub returns : goal.returns
 unfolding outcome
 returns c =
-    all_good c.args.x.now c.args.y.now c.args.z.now c.in_ok-id.ensures c.in_ok-kind.ensures c.in_ok-number.ensures
+    all_good c.args.x.now c.args.y.now c.args.z.now c.in_ok-id.ensures c.in_ok-kind.ensures c.in_ok-parse.ensures

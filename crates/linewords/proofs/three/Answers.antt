@@ -4,7 +4,6 @@ use Rattle.std.proofs.lemmas.Result.{err_from_is_err_and}
 use Rattle.errno.specs.Ascii.{ascii}
 use Rattle.errno.specs.Outcome.{outcome}
 use Rattle.encoding.specs.Meant.{meant}
-use Rattle.configtext.specs.ConfigText.{mask_outcome}
 use Rattle.wordtext.proofs.Laws.{is_word, first_yes, first_no}
 use Rattle.linewords.specs.Requests.{by_words}
 use Rattle.linewords.specs.Asked.{asked}
@@ -12,23 +11,23 @@ use Rattle.linewords.proofs.Laws.{when_good_lem, when_bad}
 use Rattle.linewords.proofs.three.Goals as goal
 
 pub returns-in_err-byte : goal.returns-in_err-byte
-unfolding ascii asked by_words meant outcome mask_outcome
+unfolding ascii asked by_words meant outcome
 returns-in_err-byte c =
     let p = err_from_is_err_and c.from_residual.result c.from_residual.ensures.1 in rw (p.1, p.2)
     (when_bad _ c.in_err-byte.ensures ∙ sym (first_yes _ (is_word _ "move" c.eq.ensures c.as_slice.ensures ∙ c.if-eq.true)))
 
 pub returns-in_err-byte-2 : goal.returns-in_err-byte-2
-unfolding ascii asked by_words meant outcome mask_outcome
+unfolding ascii asked by_words meant outcome
 returns-in_err-byte-2 c =
     let p = err_from_is_err_and c.from_residual-in_err-byte-2.result c.from_residual-in_err-byte-2.ensures.1 in rw (p.1, p.2)
     ((when_bad _ c.in_err-byte-2.ensures ∙ when_good_lem _ c.in_ok-byte.ensures) ∙ sym (first_yes _ (is_word _ "move" c.eq.ensures c.as_slice.ensures ∙ c.if-eq.true)))
 
 pub returns-then-eq : goal.returns-then-eq
-unfolding ascii asked by_words meant outcome mask_outcome
+unfolding ascii asked by_words meant outcome
 returns-then-eq c =
     when_good_lem _ c.in_ok-byte-2.ensures ∙ when_good_lem _ c.in_ok-byte.ensures ∙ sym (first_yes _ (is_word _ "move" c.eq.ensures c.as_slice.ensures ∙ c.if-eq.true))
 
 pub returns : goal.returns
-unfolding ascii asked by_words meant outcome mask_outcome
+unfolding ascii asked by_words meant outcome
 returns c =
     sym (first_no _ (is_word _ "move" c.eq.ensures c.as_slice.ensures ∙ c.if-eq.false))
