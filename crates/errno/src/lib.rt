@@ -66,11 +66,13 @@ const TABLE: [Entry; 8] = [
 ];
 
 // The errno value of a case, as a hypervisor returns it.
-#[tactic(auto, unfolding(crate::specs::Errno::number_of))]
-pub fn number(e: Errno) -> u8
-    ensures { result ≡ number_of e }
-{
-    TABLE[e as usize].number
+impl From<Errno> for u8 {
+    ghost from_gives = { λ e n. n ≡ number_of e };
+
+    #[tactic(auto, unfolding(crate::specs::Errno::number_of))]
+    fn from(e: Errno) -> u8 {
+        TABLE[e as usize].number
+    }
 }
 
 // The name of a case, as an answer line shows it, in ASCII.

@@ -28,16 +28,6 @@ impl Product {
         }
     }
 
-    // The queues of a matrix.
-    pub fn of(masks: Masks) -> Product
-        ensures { result ≡ record { adapters = masks.adapters; domains = masks.domains } }
-    {
-        Product {
-            adapters: masks.adapters,
-            domains: masks.domains,
-        }
-    }
-
     // Whether a queue is in it.
     pub fn has(self, adapter: Apid, domain: Apqi) -> bool
         ensures { result ≡ queues_of self (apqn adapter domain) }
@@ -60,6 +50,18 @@ impl Product {
             self.domains
         } else {
             Mask::empty()
+        }
+    }
+}
+
+// The queues of a matrix.
+impl From<Masks> for Product {
+    ghost from_gives = { λ m p. p ≡ record { adapters = m.adapters; domains = m.domains } };
+
+    fn from(masks: Masks) -> Product {
+        Product {
+            adapters: masks.adapters,
+            domains: masks.domains,
         }
     }
 }

@@ -78,18 +78,21 @@ pub fn answer_number(answer: Answer) -> u8
 {
     match answer {
         Ok(()) => 0,
-        Err(e) => errno::number(e),
+        Err(e) => u8::from(e),
     }
 }
 
 // What a move did, as a number.
-pub fn moved_number(moved: Moved) -> u8
-    ensures { result ≡ moved_number moved }
-{
-    match moved {
-        Moved::Idle => 0,
-        Moved::Released => 1,
-        Moved::BoundHost => 2,
-        Moved::BoundPassthrough => 3,
+impl From<Moved> for u8 {
+    ghost from_gives = { λ m n. n ≡ moved_number m };
+
+    #[tactic(auto, unfolding(crate::specs::Queues::moved_number))]
+    fn from(moved: Moved) -> u8 {
+        match moved {
+            Moved::Idle => 0,
+            Moved::Released => 1,
+            Moved::BoundHost => 2,
+            Moved::BoundPassthrough => 3,
+        }
     }
 }
