@@ -4,12 +4,14 @@
     translate.py OUT            the library: OUT/lib.rs, a module for each crate, and a shim for each export
     translate.py OUT PROGRAM    a program of the gate: OUT/main.rs, and a module for each crate that it rests on
 
-The code of a Rattle function is a Rust function's code. So a line is copied as it is, unless it has one of seven forms:
+The code of a Rattle function is a Rust function's code. So a line is copied as it is, unless it has one of nine forms:
 
     ghost use ...;                       dropped
+    ghost NAME = { ... };                a member of an impl for the proofs, or with a colon of a trait: dropped
     #![tactic(...)] or #[tactic(...)]    dropped: how the check is to prove
     requires { ... }                     dropped, where it stands between the head and the body of a function
     ensures NAME { ... }                 the same; the name may be missing, and lines after the first are indented more
+    ensures NAME { ... };                the last of a trait's function without a body: leaves the semicolon
     #[derive(...)]                       loses Drop, which Rust has no derive for; one of Drop alone is dropped
     #[unsafe(no_mangle)]                 dropped from an export, whose head loses its extern "C": the shim has both
     fn main(rt: HostRuntime) ... {       gets a pub, since a program is a module too
@@ -20,7 +22,7 @@ prelude is for which something stands in port/kit.rs: in programs alone.
 A line of code of another form stops the translation where it has a word or a sign of a specification, or something else
 that is on the list STRANGE, or a comment or a string that runs over its end. Only a string whose line ends in a backslash may go
 on; the lines within it, and comments, are copied whatever they have. What is left is copied too, and rustc judges it. So
-nothing is missing from the output but lines of the first six forms.
+nothing is missing from the output but lines of the first eight forms.
 """
 
 import collections
@@ -29,8 +31,9 @@ import re
 import sys
 
 GHOST_USE = re.compile(r"ghost use [^;]+;")
+GHOST_MEMBER = re.compile(r"    ghost \w+(?: =|:) (\{ .+ \});")
 # the last line of a function's head, where its body begins on a line of its own
-HEAD_END = re.compile(r"""( *)((pub )?(extern "C" )?fn \w+(<'[a-z]>)?\(.*)?\)( -> [^{}]+)?""")
+HEAD_END = re.compile(r"""( *)((pub )?(extern "C" )?fn \w+(<[^()]+>)?\(.*)?\)( -> [^{}]+)?""")
 CONTRACT = re.compile(r"( *)(requires|ensures)( \w+)? \{ .*")
 # what can hold a brace that is none of a clause's own
 CONTRACT_STRANGE = re.compile(r"//|--|\"|'[{}]'|\{-")
@@ -52,7 +55,7 @@ PRINT = re.compile(r"\bprint!\(rt; (?=\")")
 PRELUDE = re.compile(r"\b(HostRuntime|Input|Print)\b")
 # what a line of code that is copied must not have, beside what is not ASCII
 STRANGE = re.compile(
-    r"\b(ghost|requires|ensures|invariant|decreases|assert\w*|assume\w*|unsafe|extern|static|mod|trait)\b"
+    r"\b(ghost|requires|ensures|invariant|decreases|assert\w*|assume\w*|unsafe|extern|(?<!')static|mod)\b"
     r'|#!?\[|!\(|\bb?r#*"'
 )
 
@@ -115,7 +118,7 @@ def string_open(line):
         part = (
             re.match(r"//.*", rest)
             or re.match(r"b?'(\\.|[^'\\])'", rest)
-            or re.match(r"[<&]'[a-z](?=[ >])", rest)
+            or re.match(r"[<&]'(?:[a-z]|static)(?=[ >])", rest)
             or re.match(r'"(\\.|[^"\\])*"', rest)
             or re.match(r"(?!/\*|\*/)[^'\"]", rest)
         )
@@ -159,10 +162,11 @@ def translate(path, lines, counts):
         if contract:
             if head is None or contract[1] != head + "    ":
                 raise strange("a contract that does not follow the head of a function")
-            depth = 0
+            depth, without_body = 0, False
             while True:
                 counts[f"lines of {contract[2]} dropped"] += 1
-                depth = depth_after(line, depth)
+                without_body = line.endswith(" };")
+                depth = depth_after(line.removesuffix(";") if without_body else line, depth)
                 if depth is None or CONTRACT_STRANGE.search(line):
                     raise strange("more than a contract, or a text in it")
                 if depth == 0:
@@ -171,13 +175,19 @@ def translate(path, lines, counts):
                 i += 1
                 if not line.startswith(contract[1] + "    "):
                     raise strange("a contract that does not end")
-            if not line.endswith(" }"):
+            if without_body and head and contract[2] == "ensures":
+                counts["lines of ensures dropped"] -= 1
+                counts["lines changed"] += 1
+                out.append(head + ";")
+                head = None
+            elif not line.endswith(" }"):
                 raise strange("a contract that does not end as others do")
             continue
         if head is not None and line != head + "{":
             raise strange("neither a contract nor the body of a function")
         head = None
-        if GHOST_USE.fullmatch(line):
+        member = GHOST_MEMBER.fullmatch(line)
+        if GHOST_USE.fullmatch(line) or member and depth_after(member[1], 0) == 0 and not CONTRACT_STRANGE.search(line):
             counts["ghost lines dropped"] += 1
             continue
         if TACTIC.fullmatch(line):
@@ -308,7 +318,8 @@ def is_for_programs(name):
     """Whether a crate is a program or uses the kit's std."""
     if os.path.exists(f"crates/{name}/src/main.rt"):
         return True
-    return any(re.search(r"\bstd::", line) for line in read_lines(f"crates/{name}/src/lib.rt") if not is_comment(line))
+    lines = read_lines(f"crates/{name}/src/lib.rt")
+    return any(re.search(r"\bstd::", line) for line in lines if not is_comment(line) and not TACTIC.fullmatch(line))
 
 
 def below(crates, name):

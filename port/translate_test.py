@@ -9,6 +9,16 @@ from translate import Strange, imported, shim, translate
 # A text, and what becomes of it.
 GOOD = {
     "a ghost line": ("ghost use a.B.{c, ◌≡◌};\nuse mask::Mask;", "use mask::Mask;"),
+    "an impl and a trait": (
+        "impl From<A> for u8 {\n    ghost from_gives = { λ a n. n ≡ a.0 };\n\n    fn from(a: A) -> u8 {\n        a.0\n    }\n}\n"
+        "pub trait T {\n    ghost bit: { Self → ℕ };\n\n    fn bit(self) -> u8\n        ensures { result ≡ bit self };\n}",
+        "impl From<A> for u8 {\n\n    fn from(a: A) -> u8 {\n        a.0\n    }\n}\npub trait T {\n\n    fn bit(self) -> u8\n    ;\n}",
+    ),
+    "generics": (
+        "fn f<N: T>(n: N, s: &'static [u8]) -> u8\n    ensures { result ≡ N.bit n }\n{\n    n.bit()\n}\n"
+        "fn g<const N: usize>() -> [u8; N]\n    ensures { N ≡ N }\n{\n    h::<N>()\n}",
+        "fn f<N: T>(n: N, s: &'static [u8]) -> u8\n{\n    n.bit()\n}\nfn g<const N: usize>() -> [u8; N]\n{\n    h::<N>()\n}",
+    ),
     "tactics": (
         "#![tactic(auto)]\n\n#[tactic(auto, using(a, b))]\nfn f() {\n    #[tactic(none)]\n    g();\n}",
         "\nfn f() {\n    g();\n}",
@@ -54,6 +64,8 @@ GOOD = {
 # Texts at which it stops: each would lose something, or is not plain code.
 BAD = {
     "another ghost line": "ghost let x = 1;",
+    "code after a ghost member": "    ghost a = { b }; let x = { c };",
+    "a ghost member without an end": "    ghost a = { b",
     "an indented ghost line": "    ghost use a.b;",
     "code after a ghost line": "ghost use a.b; use c::D;",
     "a ghost line without an end": "ghost use a.b.{c,",
@@ -99,7 +111,7 @@ BAD = {
     "a label": "    'a: loop {",
     "a lifetime of another form": "fn f<'a, 'b>(x: &'a u8, y: &'b u8) {",
     "a lifetime that a quote follows": "    f(x <'a', \"",
-    "the lifetime of the program": "fn f(x: &'static [u8]) {",
+    "a static": "static A: u8 = 1;",
     "a sign in code": "    let x = y ≡ z;",
     "an attribute": "#[inline]\nfn f() {\n}",
     "an attribute of the file": "#![no_std]",
