@@ -4,8 +4,6 @@
 
 use errno::Errno;
 use mask::Mask;
-use masktext::MaskRead;
-use number::Number;
 use std::io;
 
 // A text stands between the letter that says how it is read and a semicolon: n as a number; e and f as a mask, on the
@@ -38,10 +36,10 @@ fn each(rt: &impl Print, table: &[u8]) -> io::Result<()> {
 }
 
 fn row(rt: &impl Print, s: &[u8]) -> io::Result<()> {
-    if 0 < s.len() {
-        read(rt, s[0], &s[1..])?;
+    match s.split_first() {
+        Some((how, text)) => read(rt, *how, text),
+        None => Ok(()),
     }
-    Ok(())
 }
 
 fn read(rt: &impl Print, how: u8, s: &[u8]) -> io::Result<()> {
@@ -68,13 +66,13 @@ fn label(rt: &impl Print, word: &[u8], s: &[u8]) -> io::Result<()> {
     Ok(())
 }
 
-fn number_outcome(rt: &impl Print, n: Number) -> io::Result<()> {
-    match n {
-        Number::Value(v) => {
-            print::number(rt, b"", v as u64)?;
+fn number_outcome(rt: &impl Print, r: Result<u16, Errno>) -> io::Result<()> {
+    match r {
+        Ok(v) => {
+            print::number(rt, b"", u64::from(v))?;
         }
-        Number::Bad => {
-            bad(rt)?;
+        Err(e) => {
+            refused(rt, e)?;
         }
     }
     Ok(())
@@ -85,113 +83,98 @@ fn mask(rt: &impl Print, s: &[u8], old: Mask) -> io::Result<()> {
     mask_outcome(rt, masktext::parse(s, old))
 }
 
-fn mask_outcome(rt: &impl Print, r: MaskRead) -> io::Result<()> {
-    if r.good {
-        let m = r.mask;
-        print::text(rt, b"0x")?;
-        print::mask_hex(rt, m)?;
-        print::text(rt, b"\n")?;
-    } else {
-        bad(rt)?;
+fn mask_outcome(rt: &impl Print, r: Result<Mask, Errno>) -> io::Result<()> {
+    match r {
+        Ok(m) => {
+            print::text(rt, b"0x")?;
+            print::mask_hex(rt, m)?;
+            print::text(rt, b"\n")?;
+        }
+        Err(e) => {
+            refused(rt, e)?;
+        }
     }
     Ok(())
 }
 
-fn bad(rt: &impl Print) -> io::Result<()> {
-    print::name(rt, Errno::Einval)?;
+fn refused(rt: &impl Print, e: Errno) -> io::Result<()> {
+    print::name(rt, e)?;
     print::text(rt, b"\n")?;
     Ok(())
 }
 
 fn number_starts(rt: &impl Print, t: &[u8]) -> io::Result<()> {
-    let mut n = 0usize;
-    while n < t.len() {
-        number_start(rt, changed(t, n, 10), n)?;
-        n += 1;
+    for n in 0..t.len() {
+        number_start(rt, changed(t, n, b'\n'), n)?;
     }
     Ok(())
 }
 
 fn number_start(rt: &impl Print, s: [u8; 24], n: usize) -> io::Result<()> {
     if n < 24 {
-        number_outcome(rt, number::parse(&s[0..n]))?;
-        number_outcome(rt, number::parse(&s[0..n + 1]))?;
+        number_outcome(rt, number::parse(&s[..n]))?;
+        number_outcome(rt, number::parse(&s[..n + 1]))?;
     }
     Ok(())
 }
 
 fn mask_starts(rt: &impl Print, t: &[u8], from: usize, old: Mask) -> io::Result<()> {
-    let mut n = from;
-    while n < t.len() {
-        mask_outcome(rt, masktext::parse(&t[0..n], old))?;
-        n += 1;
+    for n in from..t.len() {
+        mask_outcome(rt, masktext::parse(&t[..n], old))?;
     }
     Ok(())
 }
 
 fn bytes(rt: &impl Print, how: u8, t: &[u8]) -> io::Result<()> {
-    let mut place = 0usize;
-    while place < t.len() {
-        let mut b = 0usize;
-        while b < 256 {
+    for place in 0..t.len() {
+        for b in 0..=255u8 {
             changed_byte(rt, how, t, place, b)?;
-            b += 1;
         }
-        place += 1;
     }
     Ok(())
 }
 
-fn changed_byte(rt: &impl Print, how: u8, t: &[u8], place: usize, b: usize) -> io::Result<()> {
+fn changed_byte(rt: &impl Print, how: u8, t: &[u8], place: usize, b: u8) -> io::Result<()> {
     let s = changed(t, place, b);
-    if how == b'N' {
-        number_line(rt, s, t.len(), place, b)
-    } else {
-        mask_line(rt, s, t.len(), place, b)
+    match s.get(..t.len()) {
+        Some(text) if how == b'N' => number_line(rt, text, place, b),
+        Some(text) => mask_line(rt, text, place, b),
+        None => Ok(()),
     }
 }
 
-fn number_line(rt: &impl Print, s: [u8; 24], n: usize, place: usize, b: usize) -> io::Result<()> {
-    if n < 25 {
-        if let Number::Value(v) = number::parse(&s[0..n]) {
-            at(rt, place, b)?;
-            print::number(rt, b"", v as u64)?;
-        }
+fn number_line(rt: &impl Print, s: &[u8], place: usize, b: u8) -> io::Result<()> {
+    if let Ok(v) = number::parse(s) {
+        at(rt, place, b)?;
+        number_outcome(rt, Ok(v))?;
     }
     Ok(())
 }
 
-fn mask_line(rt: &impl Print, s: [u8; 24], n: usize, place: usize, b: usize) -> io::Result<()> {
-    if n < 25 {
-        let r = masktext::parse(&s[0..n], Mask::full());
-        if r.good {
-            at(rt, place, b)?;
-            mask_outcome(rt, r)?;
-        }
+fn mask_line(rt: &impl Print, s: &[u8], place: usize, b: u8) -> io::Result<()> {
+    if let Ok(m) = masktext::parse(s, Mask::full()) {
+        at(rt, place, b)?;
+        mask_outcome(rt, Ok(m))?;
     }
     Ok(())
 }
 
-fn at(rt: &impl Print, place: usize, b: usize) -> io::Result<()> {
+fn at(rt: &impl Print, place: usize, b: u8) -> io::Result<()> {
     print::decimal(rt, place as u64)?;
     print::text(rt, b" ")?;
-    print::decimal(rt, b as u64)?;
+    print::decimal(rt, u64::from(b))?;
     print::text(rt, b" ")?;
     Ok(())
 }
 
 // A text of at most 24 bytes, with another byte at a place.
-fn changed(t: &[u8], place: usize, b: usize) -> [u8; 24] {
+fn changed(t: &[u8], place: usize, b: u8) -> [u8; 24] {
     let mut s = [0u8; 24];
-    let mut i = 0usize;
-    while i < t.len() {
-        if i < 24 {
-            s[i] = t[i];
-        }
-        i += 1;
+    for (to, from) in s.iter_mut().zip(t) {
+        *to = *from;
     }
-    if place < 24 {
-        s[place] = (b % 256) as u8;
+    if let Some(to) = s.get_mut(place) {
+        *to = b;
     }
     s
 }
