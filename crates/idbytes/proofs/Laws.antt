@@ -3,6 +3,11 @@
 use Prim.Native.Nat.{ℕ, ◌+◌, ◌*◌, ◌/◌, ◌%◌, ◌<◌}
 use native.Mathlib.Omega.{arith}
 use mathlib.Core.Path.{◌≡◌, ap₂}
+use mathlib.Core.List.{List, ◌++◌}
+use lib.ListN.{replicate}
+use borrow.Rule.Slice.PartMut.{put_mid}
+use mir.Syntax.{w64}
+use Rattle.std.specs.Int.{to_be_bytes}
 use Rattle.rules.specs.declared.Id.{Id}
 use Rattle.fields.specs.Fields.{half_at, word_at, id_of}
 use Rattle.rows.specs.Rows.{row}
@@ -39,3 +44,11 @@ word_back w h =
 pub id_back : (i : Id) → i.hi < 18446744073709551616 → i.lo < 18446744073709551616 → id_of (id_bytes i) ≡ i
 unfolding half_at word_at id_of row id_byte id_bytes
 id_back i h l = ap₂ (λ (x y : ℕ). record { hi = x; lo = y }) (word_back i.hi h) (word_back i.lo l)
+
+-- the bytes of an id are those of its two halves, put one after the other
+pub halves_put : (i : Id) (h l : List ℕ) → h ≡ to_be_bytes w64 i.hi → l ≡ to_be_bytes w64 i.lo → put_mid 8 8 (h ++ replicate 8 0) l ≡ id_bytes i
+unfolding row id_byte id_bytes
+halves_put i h l p q =
+    let a : i.hi / 1 ≡ i.hi = omega arith in
+    let b : i.lo / 1 ≡ i.lo = omega arith in
+    rw (p, q, a, b)

@@ -51,7 +51,7 @@ pub type Words = [u64; WORDS];
 // A byte for the driver of each queue.
 pub type Drivers = [u8; QUEUES];
 
-// A reference to an array says how long it is only where it becomes a slice. These two do nothing but state that.
+// That its items fit is known of a reference to a slice, and not of one to an array. These two do nothing but state that.
 pub fn hold_words(words: &Words)
     ensures { Sized 64 word_count words.now }
 {
@@ -67,17 +67,14 @@ pub fn hold_drivers(drivers: &Drivers)
 fn small_words(words: &[u64])
     ensures { Small 64 words.now }
 {
-    nothing();
+    let _ = words;
 }
 
 fn small_bytes(bytes: &[u8])
     ensures { Small 8 bytes.now }
 {
-    nothing();
+    let _ = bytes;
 }
-
-// A slice's numbers are known to be small in a function that calls another.
-fn nothing() {}
 
 // Where the mask of a kind lies in a slot.
 pub fn kind_at(kind: Kind) -> usize

@@ -3,10 +3,11 @@
 // Rests on mask, rules and layout.
 #![tactic(auto)]
 
-ghost use Rattle.std.specs.Prelude.{◌≡◌, ◌+◌, ◌<◌, min};
+ghost use Rattle.std.specs.Prelude.{◌≡◌, ◌+◌, ◌<◌, min, cond, get_or, ltb};
 ghost use Rattle.mask.specs.Bits.{bits};
 ghost use Rattle.rules.specs.Commands.{numbers_of};
-ghost use Rattle.layout.specs.Layout.{word_count, four};
+ghost use Rattle.layout.specs.Layout.{word_count, slot_words, device_at, four};
+ghost use Rattle.rules.specs.State.{slots};
 ghost use Rattle.layout.specs.Lent.{limits, host, config, devices};
 
 use layout::{
@@ -42,7 +43,7 @@ pub fn max_domain(words: &Words) -> Apqi
 fn limit(w: u64) -> u8
     ensures { result ≡ min w 255 }
 {
-    if w < 255 { (w % 256) as u8 } else { 255 }
+    u8::try_from(w).unwrap_or(u8::MAX)
 }
 
 pub fn apmask(words: &Words) -> Mask
@@ -81,35 +82,38 @@ pub fn hardware_type(words: &Words, adapter: Apid) -> u64
     words[TYPES + adapter.0 as usize]
 }
 
+// A word of a slot, or 0 past the last slot.
+fn slot_word(words: &Words, slot: usize, k: usize) -> u64
+    requires { k < slot_words }
+    ensures { result ≡ cond (ltb slot slots) (get_or words.now (device_at slot + k) 0) 0 }
+{
+    if slot < SLOTS {
+        words[FIRST_SLOT + slot * SLOT_WORDS + k]
+    } else {
+        0
+    }
+}
+
 // Whether there is a device at a slot. Here and below there is none past the last slot.
 pub fn present(words: &Words, slot: usize) -> bool
     ensures { result ≡ (devices words.entry slot).present }
 {
-    if slot < SLOTS {
-        return words[FIRST_SLOT + slot * SLOT_WORDS] != 0;
-    }
-    false
+    slot_word(words, slot, 0) != 0
 }
 
 pub fn is_open(words: &Words, slot: usize) -> bool
     ensures { result ≡ (devices words.entry slot).is_open }
 {
-    if slot < SLOTS {
-        return words[FIRST_SLOT + slot * SLOT_WORDS + OPEN] != 0;
-    }
-    false
+    slot_word(words, slot, OPEN) != 0
 }
 
 pub fn id(words: &Words, slot: usize) -> Id
     ensures { result ≡ (devices words.entry slot).id }
 {
-    if slot < SLOTS {
-        return Id {
-            hi: words[FIRST_SLOT + slot * SLOT_WORDS + ID_HI],
-            lo: words[FIRST_SLOT + slot * SLOT_WORDS + ID_LO],
-        };
+    Id {
+        hi: slot_word(words, slot, ID_HI),
+        lo: slot_word(words, slot, ID_LO),
     }
-    Id { hi: 0, lo: 0 }
 }
 
 // The assigned adapters, domains or control domains of the device at a slot.
@@ -117,10 +121,11 @@ pub fn numbers(words: &Words, slot: usize, kind: Kind) -> Mask
     ensures { bits result ≡ numbers_of kind (devices words.entry slot) }
 {
     if slot < SLOTS {
-        return mask_at(
+        mask_at(
             words,
             FIRST_SLOT + slot * SLOT_WORDS + layout::kind_at(kind),
-        );
+        )
+    } else {
+        Mask::empty()
     }
-    Mask::empty()
 }

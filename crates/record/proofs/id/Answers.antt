@@ -1,13 +1,13 @@
 -- `id` meets its contract.
-use borrow.Author.Tests.{lt-ltb, le-ltb}
-use Rattle.rules.specs.State.{no_device}
+use Rattle.std.proofs.Common.{ℕ, ◌∙◌}
+use mathlib.Core.Path.{ap₂}
+use lib.Dec.{ltb}
+use Rattle.rules.specs.State.{slots}
 use Rattle.layout.specs.Layout.{device_in}
+use Rattle.record.proofs.Laws.{id_read}
 use Rattle.record.proofs.id.Goals as goal
 
-pub returns-then-slot-lt-SLOTS : goal.returns-then-slot-lt-SLOTS
-unfolding device_in no_device
-returns-then-slot-lt-SLOTS c = simp (lt-ltb _ _ c.if-slot-lt-SLOTS.true)
-
 pub returns : goal.returns
-unfolding device_in no_device
-returns c = simp (le-ltb _ _ c.if-slot-lt-SLOTS.false)
+unfolding device_in
+returns c =
+    ap₂ (λ (h l : ℕ). record { hi = h; lo = l }) c.slot_word.ensures c.slot_word-2.ensures ∙ id_read c.args.words.now c.args.slot (ltb c.args.slot slots)

@@ -1,13 +1,11 @@
 -- `is_open` meets its contract.
-use borrow.Author.Tests.{lt-ltb, le-ltb}
-use Rattle.rules.specs.State.{no_device}
+use Rattle.std.proofs.Common.{ap, ◌∙◌}
+use lib.Dec.{ltb}
+use Rattle.rules.specs.State.{slots}
 use Rattle.layout.specs.Layout.{device_in, flag}
+use Rattle.record.proofs.Laws.{open_read}
 use Rattle.record.proofs.is_open.Goals as goal
 
-pub returns-then-slot-lt-SLOTS : goal.returns-then-slot-lt-SLOTS
-unfolding device_in flag no_device
-returns-then-slot-lt-SLOTS c = simp (lt-ltb _ _ c.if-slot-lt-SLOTS.true)
-
 pub returns : goal.returns
-unfolding device_in flag no_device
-returns c = simp (le-ltb _ _ c.if-slot-lt-SLOTS.false)
+unfolding device_in flag
+returns c = ap flag c.slot_word.ensures ∙ open_read c.args.words.now c.args.slot (ltb c.args.slot slots)

@@ -18,9 +18,9 @@ returns-then-slot-lt-SLOTS c =
     ap (bit_at 64) c.mask_at.ensures ∙ ap (λ (n : ℕ). mask_at a.words.now (278 + a.slot * 16 + n)) c.kind_at.ensures
     ∙ sym (numbers_there a.words.now a.slot a.kind) ∙ ap (numbers_of a.kind) (sym (device_there_lem a.words.now a.slot (omega arith)))
 
-pub returns : goal.returns
+pub returns-else-slot-lt-SLOTS : goal.returns-else-slot-lt-SLOTS
 unfolding numbers_of no_device
-returns c =
+returns-else-slot-lt-SLOTS c =
     let a = c.args in
     c.empty.ensures ∙ none a.kind ∙ ap (numbers_of a.kind) (sym (device_past a.words.now a.slot (omega arith)))
   where

@@ -1,5 +1,0 @@
--- `small_words` meets its contract, by what a slice tells of its elements.
-use Rattle.layout.proofs.small_words.Goals as goal
-
-pub returns : goal.returns
-returns c = λ k. (c.shared_slice_known-1.given k).fits
