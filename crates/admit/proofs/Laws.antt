@@ -1,7 +1,7 @@
 -- The tests of the rules at a number.
 -- Assumes nothing.
 use Rattle.std.proofs.Common.{Ok, Err}
-use Prim.Native.Nat.{ℕ, ◌≤◌, ◌%◌}
+use Prim.Native.Nat.{ℕ, ◌<◌, ◌≤◌}
 use native.Mathlib.Omega.{arith}
 use mathlib.Core.Bool.{Bool, true, false, cond, or-false}
 use mathlib.Core.List.{List}
@@ -33,7 +33,7 @@ limit_small Domain ws = omega arith
 limit_small Control ws = omega arith
 
 -- a number in range is below 256
-pub in_range_small : (k : Kind) (ws : List ℕ) (n : ℕ) → leb n (limit_of k (limits_in ws)) ≡ true → n % 256 ≡ n
+pub in_range_small : (k : Kind) (ws : List ℕ) (n : ℕ) → leb n (limit_of k (limits_in ws)) ≡ true → n < 256
 in_range_small k ws n e = omega (arith, leb-true n (limit_of k (limits_in ws)) e, limit_small k ws)
 
 -- a test that was found true or false

@@ -15,8 +15,8 @@ pub fn assign(words: &mut Words, kind: Kind, id: Id, text: &[u8]) -> Answer
     ensures { Assigns kind id text.entry words.entry words.exit result }
 {
     match number::parse(text) {
-        Number::Value(n) => assignnumber::assign(words, kind, id, n as u64),
-        Number::Bad => Answer::Refused(Errno::Einval),
+        Number::Value(n) => assignnumber::assign(words, kind, id, u64::from(n)),
+        Number::Bad => Err(Errno::Einval),
     }
 }
 
@@ -25,7 +25,7 @@ pub fn unassign(words: &mut Words, kind: Kind, id: Id, text: &[u8]) -> Answer
     ensures { Unassigns kind id text.entry words.entry words.exit result }
 {
     match number::parse(text) {
-        Number::Value(n) => assignnumber::unassign(words, kind, id, n as u64),
-        Number::Bad => Answer::Refused(Errno::Einval),
+        Number::Value(n) => assignnumber::unassign(words, kind, id, u64::from(n)),
+        Number::Bad => Err(Errno::Einval),
     }
 }

@@ -1,6 +1,6 @@
 -- What assigning writes and reads, the rule at a slot, and where a number goes.
 -- Assumes nothing.
-use Rattle.std.proofs.Common.{Ok, Err}
+use Rattle.std.proofs.Common.{Ok, Err, Some, None}
 use Prim.Native.Nat.{ℕ, zero, suc, ◌+◌, ◌^◌, ◌<◌}
 use native.Mathlib.Omega.{arith}
 use mathlib.Core.Bool.{Bool, true, false, cond}
@@ -14,19 +14,17 @@ use Rattle.errno.specs.declared.Errno.{Errno}
 use Rattle.errno.specs.declared.Errno.TheVariants.{Enoent, Enodev}
 use Rattle.mask.specs.declared.Mask.{Mask}
 use Rattle.mask.specs.Bits.{Sized, Bits, bits, included}
-use Rattle.rules.specs.declared.Answer.TheVariants.{Refused}
 use Rattle.rules.specs.declared.Id.{Id}
 use Rattle.rules.specs.declared.Kind.{Kind}
 use Rattle.rules.specs.State.{State, slots}
-use Rattle.rules.specs.Commands.{Answer, numbers_of, with_numbers, with_device, on_device, slot_of, limit_of, assign_at, adding, paired, assign_number}
+use Rattle.rules.specs.Commands.{Answer, numbers_of, with_numbers, with_device, on_device, found, slot_of, limit_of, assign_at, adding, paired, assign_number}
 use Rattle.rules.specs.Refusals.{NumberRefusedExactly}
+use Rattle.rules.proofs.First.{found_some, found_nothing}
 use Rattle.rules.proofs.Refusals.{absorbed, number_refused_exactly}
 use Rattle.layout.specs.Carried.{CarriedWords}
 use Rattle.layout.specs.Layout.{word_count, four, mask_at, device_in, limits_in, host_in, state_in, words_of, put_four, put_numbers, device_at, kind_at}
-use Rattle.layout.proofs.Laws.{cond_below, device_there_lem, numbers_there, words_of_lem, put_same, read_numbers, refused_carried, carried_as}
-use Rattle.assignnumber.specs.Numbers.{changed, assigned_to, located_in}
-use Rattle.assignnumber.specs.declared.Located.{Located}
-use Rattle.assignnumber.specs.declared.Located.TheVariants.{At, Nowhere}
+use Rattle.layout.proofs.Laws.{cond_below, cond_past, device_there_lem, numbers_there, words_of_lem, put_same, read_numbers, refused_carried, carried_as}
+use Rattle.assignnumber.specs.Numbers.{Located, changed, assigned_to, located_in}
 
 -- four of the record's words
 four_words : {ws : List ℕ} → Sized 64 word_count ws → (k : ℕ) → Sized 64 4 (four ws k)
@@ -90,8 +88,8 @@ module _ (k : Kind) (i : Id) (n : ℕ) (ws : List ℕ) where
 
   -- the same where the number goes
   abbrev placed : (ℕ → ℕ → State → Outcome State) → Located → State → Outcome State
-  placed next (At p m) s = next m p s
-  placed next (Nowhere e) s = refused e
+  placed next (Ok (p, m)) s = next m p s
+  placed next (Err e) s = refused e
 
   by_located : (next : ℕ → ℕ → State → Outcome State) (r : Located) → r ≡ located_in k i n ws → (qs : List ℕ)
       → asked next (state_in ws qs) ≡ placed next r (state_in ws qs)
@@ -105,7 +103,7 @@ module _ (k : Kind) (i : Id) (n : ℕ) (ws : List ℕ) where
       p = slot_of i (device_in ws)
 
       tests : (a b : Bool) → cond a (cond b (next n p s) (refused Enodev)) (refused Enoent)
-          ≡ placed next (cond a (cond b (At p n) (Nowhere Enodev)) (Nowhere Enoent)) s
+          ≡ placed next (cond a (cond b (Ok (p, n)) (Err Enodev)) (Err Enoent)) s
       tests true true = refl
       tests true false = refl
       tests false b = refl
@@ -116,40 +114,47 @@ module _ (k : Kind) (i : Id) (n : ℕ) (ws : List ℕ) where
     pub number : m ≡ n
     pub there : p < slots
 
-  pub goes : {p m : ℕ} → At p m ≡ located_in k i n ws → Goes p m
+  pub goes : {p m : ℕ} → Ok (p, m) ≡ located_in k i n ws → Goes p m
   unfolding located_in
   goes {p} {m} h = tests (ltb q slots) (leb n (limit_of k (limits_in ws))) refl h
     where
       q : ℕ
       q = slot_of i (device_in ws)
 
-      tests : (a b : Bool) → ltb q slots ≡ a → At p m ≡ cond a (cond b (At q n) (Nowhere Enodev)) (Nowhere Enoent) → Goes p m
+      tests : (a b : Bool) → ltb q slots ≡ a → ◌≡◌ {A = Located} (Ok (p, m)) (cond a (cond b (Ok (q, n)) (Err Enodev)) (Err Enoent)) → Goes p m
       tests true true e h =
-          let s : p ≡ q = cc in
-          let v : m ≡ n = cc in
+          let both : ◌≡◌ {A = ℕ × ℕ} (p, m) (q, n) = cc in
+          let s : p ≡ q = ap (λ (x : ℕ × ℕ). x.0) both in
+          let v : m ≡ n = ap (λ (x : ℕ × ℕ). x.1) both in
           record { slot = s; number = v; there = omega (arith, ltb-true q slots e) }
       tests true false e h = let z : ◌≡◌ {A = ℕ} 0 1 = cc in absurd (omega arith)
       tests false b e h = let z : ◌≡◌ {A = ℕ} 0 1 = cc in absurd (omega arith)
 
   -- a rule that is carried out there, or refused
   pub at_located : (next : ℕ → ℕ → State → Outcome State) (change : ℕ → ℕ → List ℕ → List ℕ) {p m : ℕ} {vs : List ℕ} {r : Answer}
-      → At p m ≡ located_in k i n ws → CarriedWords (next m p) (change p m) ws vs r
+      → Ok (p, m) ≡ located_in k i n ws → CarriedWords (next m p) (change p m) ws vs r
       → CarriedWords (asked next) (λ l. change (slot_of i (device_in l)) n l) ws vs r
   at_located next change {p} {m} e c =
       carried_as (next m p) (asked next) (change p m) (λ l. change (slot_of i (device_in l)) n l) ws
-      (by_located next (At p m) e) (ap₂ (λ (j o : ℕ). change j o ws) (sym (goes e).slot) (sym (goes e).number)) c
+      (by_located next (Ok (p, m)) e) (ap₂ (λ (j o : ℕ). change j o ws) (sym (goes e).slot) (sym (goes e).number)) c
 
   pub not_located : (next : ℕ → ℕ → State → Outcome State) (effect : List ℕ → List ℕ) {e : Errno}
-      → Nowhere e ≡ located_in k i n ws → CarriedWords (asked next) effect ws ws (Err e)
-  not_located next effect {e} h = refused_carried (asked next) effect ws e (by_located next (Nowhere e) h)
+      → Err e ≡ located_in k i n ws → CarriedWords (asked next) effect ws ws (Err e)
+  not_located next effect {e} h = refused_carried (asked next) effect ws e (by_located next (Err e) h)
 
-  -- where it goes, by what the two tests find
-  pub by_tests : (p : ℕ) → p ≡ slot_of i (device_in ws) → {a b : Bool} → ltb p slots ≡ a → leb n (limit_of k (limits_in ws)) ≡ b
-      → cond a (cond b (At p n) (Nowhere Enodev)) (Nowhere Enoent) ≡ located_in k i n ws
+  -- where it goes, by what the search for the id and the test find
+  pub no_device : None ≡ found (slot_of i (device_in ws)) → Err Enoent ≡ located_in k i n ws
   unfolding located_in
-  by_tests p f ta tb =
-      sym (ap (λ (j : ℕ). cond (ltb j slots) (cond (leb n (limit_of k (limits_in ws))) (At j n) (Nowhere Enodev)) (Nowhere Enoent)) (sym f)
-      ∙ ap₂ (λ (a b : Bool). cond a (cond b (At p n) (Nowhere Enodev)) (Nowhere Enoent)) ta tb)
+  no_device h = sym (cond_past (slot_of i (device_in ws)) slots _ (Err Enoent) (found_nothing h))
+
+  pub by_range : {p : ℕ} → Some p ≡ found (slot_of i (device_in ws)) → (b : Bool) → leb n (limit_of k (limits_in ws)) ≡ b
+      → cond b (Ok (p, n)) (Err Enodev) ≡ located_in k i n ws
+  unfolding located_in
+  by_range {p} h b t =
+      let at = found_some h in
+      ap (λ (c : Bool). cond c (Ok (p, n)) (Err Enodev)) (sym t)
+      ∙ ap (λ (j : ℕ). cond (leb n (limit_of k (limits_in ws))) (Ok (j, n)) (Err Enodev)) at.1
+      ∙ sym (cond_below (slot_of i (device_in ws)) slots _ (Err Enoent) (rw at.1 at at.0))
 
   -- the answer is a refusal exactly where demand 2 says
   pub exact : {vs : List ℕ} {r : Answer} → CarriedWords (assign_number k i n) (assigned_to k i n) ws vs r

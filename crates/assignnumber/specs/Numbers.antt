@@ -1,7 +1,8 @@
 -- What assigning and unassigning a number write: one mask of one device.
 -- The rules: RULES.md, "Commands".
 -- Assumes nothing.
-use Rattle.std.specs.Prelude.{ℕ, cond, List, ltb, leb}
+use Rattle.std.specs.Prelude.{ℕ, cond, List, ltb, leb, Result, Ok, Err}
+use Rattle.errno.specs.declared.Errno.{Errno}
 use Rattle.errno.specs.declared.Errno.TheVariants.{Enoent, Enodev}
 use Rattle.mask.specs.Bits.{Bits, included, excluded}
 use Rattle.rules.specs.declared.Id.{Id}
@@ -12,8 +13,6 @@ use Rattle.rules.specs.Refusals.{NumberRefusedExactly}
 use Rattle.layout.specs.Layout.{limits_in, host_in, device_in, put_numbers, words_of}
 use Rattle.layout.specs.Lent.{Lent, LentMut}
 use Rattle.layout.specs.Carried.{CarriedWords, Obeys}
-use Rattle.assignnumber.specs.declared.Located.{Located}
-use Rattle.assignnumber.specs.declared.Located.TheVariants.{At, Nowhere}
 
 -- the words with a device's mask of a kind changed
 unfoldable pub changed : List ℕ → Kind → ℕ → (Bits → Bits) → List ℕ
@@ -33,11 +32,15 @@ assigned_to k i n ws = assigned_at k (slot_of i (device_in ws)) n ws
 abbrev pub unassigned_from : Kind → Id → ℕ → List ℕ → List ℕ
 unassigned_from k i n ws = unassigned_at k (slot_of i (device_in ws)) n ws
 
--- for a private function: where a number goes: the slot of the device with an id, and the number; ENOENT, then ENODEV
+-- for private functions: where a number goes, as a slot and the number, or why it goes nowhere
+abbrev pub Located : Type 0
+Located = Result (ℕ × ℕ) Errno
+
+-- the slot of the device with an id, and the number; ENOENT, then ENODEV
 unfoldable pub located_in : Kind → Id → ℕ → List ℕ → Located
 located_in k i n ws =
     cond (ltb (slot_of i (device_in ws)) slots)
-    (cond (leb n (limit_of k (limits_in ws))) (At (slot_of i (device_in ws)) n) (Nowhere Enodev)) (Nowhere Enoent)
+    (cond (leb n (limit_of k (limits_in ws))) (Ok (slot_of i (device_in ws), n)) (Err Enodev)) (Err Enoent)
 
 -- the same of lent memory
 abbrev pub located_of : Kind → Id → ℕ → Lent → Located

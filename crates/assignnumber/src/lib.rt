@@ -10,48 +10,34 @@ ghost use Rattle.layout.specs.Carried.{Obeys};
 ghost use Rattle.assignnumber.specs.Numbers.{AssignsNumber, UnassignsNumber, assigned_at, unassigned_at, located_of};
 
 use errno::Errno;
-use layout::{SLOTS, Words};
+use layout::Words;
 use rules::{Answer, Id, Kind};
-
-// Where a number goes: a slot and the number, which is in range, or the refusal.
-#[derive(Clone, Copy)]
-enum Located {
-    At(usize, u8),
-    Nowhere(Errno),
-}
 
 // Assigns a number.
 pub fn assign(words: &mut Words, kind: Kind, id: Id, number: u64) -> Answer
     ensures { AssignsNumber kind id number words.entry words.exit result }
 {
-    match locate(words, kind, id, number) {
-        Located::At(slot, n) => assign_at(words, kind, slot, n),
-        Located::Nowhere(e) => Answer::Refused(e),
-    }
+    let (slot, n) = locate(words, kind, id, number)?;
+    assign_at(words, kind, slot, n)
 }
 
 // Takes away a number.
 pub fn unassign(words: &mut Words, kind: Kind, id: Id, number: u64) -> Answer
     ensures { UnassignsNumber kind id number words.entry words.exit result }
 {
-    match locate(words, kind, id, number) {
-        Located::At(slot, n) => unassign_at(words, kind, slot, n),
-        Located::Nowhere(e) => Answer::Refused(e),
-    }
+    let (slot, n) = locate(words, kind, id, number)?;
+    unassign_at(words, kind, slot, n)
 }
 
-// Where a number goes, for the device with an id.
-fn locate(words: &Words, kind: Kind, id: Id, number: u64) -> Located
+// Where a number goes: the slot of the device with an id, and the number, which is in range.
+fn locate(words: &Words, kind: Kind, id: Id, number: u64) -> Result<(usize, u8), Errno>
     ensures { result ≡ located_of kind id number words.entry }
 {
-    let slot = lookup::find(words, id);
-    if SLOTS <= slot {
-        return Located::Nowhere(Errno::Enoent);
-    }
+    let slot = lookup::find(words, id).ok_or(Errno::Enoent)?;
     if !admit::in_range(words, kind, number) {
-        return Located::Nowhere(Errno::Enodev);
+        return Err(Errno::Enodev);
     }
-    Located::At(slot, (number % 256) as u8)
+    Ok((slot, number as u8))
 }
 
 // Assigns a number that is in range to the device at a slot.
@@ -62,16 +48,12 @@ fn assign_at(words: &mut Words, kind: Kind, slot: usize, number: u8) -> Answer
     layout::hold_words(words);
     let m = record::numbers(words, slot, kind);
     if m.has(number) {
-        return Answer::Done;
+        return Ok(());
     }
     let wanted = admit::paired(words, kind, slot, number);
-    match admit::admitted(words, slot, wanted) {
-        Answer::Refused(e) => Answer::Refused(e),
-        Answer::Done => {
-            store::put_numbers(words, slot, kind, m.with(number));
-            Answer::Done
-        }
-    }
+    admit::admitted(words, slot, wanted)?;
+    store::put_numbers(words, slot, kind, m.with(number));
+    Ok(())
 }
 
 // Takes away a number that is in range from the device at a slot.
@@ -82,5 +64,5 @@ fn unassign_at(words: &mut Words, kind: Kind, slot: usize, number: u8) -> Answer
     layout::hold_words(words);
     let m = record::numbers(words, slot, kind);
     store::put_numbers(words, slot, kind, m.without(number));
-    Answer::Done
+    Ok(())
 }

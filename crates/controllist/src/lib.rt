@@ -10,7 +10,7 @@ ghost use Rattle.layout.specs.Lent.{devices};
 ghost use Rattle.controllist.specs.Controls.{domain_line, domain_text, ControlsShown};
 
 use errno::Errno;
-use layout::{SLOTS, Words};
+use layout::Words;
 use mask::{Apqi, Mask};
 use rules::{Id, Kind};
 
@@ -29,13 +29,14 @@ pub fn control_domains(
 ) -> u8
     ensures { ControlsShown (devices words.entry) id text.entry text.exit written.entry written.exit result }
 {
-    let slot = lookup::find(words, id);
-    if SLOTS <= slot {
-        return errno::number(Errno::Enoent);
+    match lookup::find(words, id) {
+        None => errno::number(Errno::Enoent),
+        Some(slot) => {
+            let controls = record::numbers(words, slot, Kind::Control);
+            *written = write(controls, text);
+            0
+        }
     }
-    let controls = record::numbers(words, slot, Kind::Control);
-    *written = write(controls, text);
-    0
 }
 
 // Writes the lines of the domains in a mask. The answer is the number of bytes.
@@ -44,11 +45,9 @@ fn write(controls: Mask, text: &mut [u8]) -> usize
     ensures { (text.new ≡ domain_text (bits controls) ++ drop result text.old)
         × (result ≡ length (domain_text (bits controls))) }
 {
-    let mut coming = 0usize;
     let mut at = 0usize;
-    while coming < 256 {
+    for coming in 0..256usize {
         let domain = coming as u8;
-        coming += 1;
         if controls.has_domain(Apqi(domain)) {
             put_line(text, at, domain);
             at += LINE;

@@ -3,54 +3,40 @@
 // Rests on mask, errno, rules, layout, product, record, lookup and matrix.
 #![tactic(auto)]
 
-ghost use Rattle.std.specs.Prelude.{◌≡◌, cond, ltb};
-ghost use Rattle.errno.specs.Errno.{number_of};
-ghost use Rattle.errno.specs.declared.Errno.TheVariants.{Enoent};
-ghost use Rattle.rules.specs.State.{slots, apqn};
-ghost use Rattle.rules.specs.Commands.{answered};
-ghost use Rattle.layout.specs.Lent.{state};
+ghost use Rattle.std.specs.Prelude.{◌≡◌};
+ghost use Rattle.rules.specs.State.{apqn};
+ghost use Rattle.rules.specs.Queues.{usable};
+ghost use Rattle.layout.specs.Lent.{devices, state};
 ghost use Rattle.guest.specs.Masks.{Shows, usable_with};
 
 use errno::Errno;
-use layout::{Drivers, SLOTS, Words};
+use layout::{Drivers, Words};
 use mask::{Apid, Apqi};
 use product::Product;
-use rules::{Answer, Id, Masks, Matrix};
-
-// The masks of a device, or a refusal and empty masks where no device has the id.
-#[derive(Clone, Copy)]
-pub struct Shown {
-    pub answer: Answer,
-    pub masks: Masks,
-}
+use rules::{Id, Masks, Matrix};
 
 // A matrix of the device with an id.
-pub fn masks(words: &Words, drivers: &Drivers, id: Id, matrix: Matrix) -> Shown
+pub fn masks(words: &Words, drivers: &Drivers, id: Id, matrix: Matrix) -> Result<Masks, Errno>
     ensures { Shows (state words.entry drivers.entry) id matrix result }
 {
-    let slot = lookup::find(words, id);
-    let m = matrix::masks_at(words, drivers, slot, matrix);
-    Shown {
-        answer: found(slot),
-        masks: m,
-    }
-}
-
-// The answer for the slot of an id: a refusal past the last slot.
-fn found(slot: usize) -> Answer
-    ensures { answered result ≡ cond (ltb slot slots) 0 (number_of Enoent) }
-{
-    if slot < SLOTS {
-        return Answer::Done;
-    }
-    Answer::Refused(Errno::Enoent)
+    let slot = lookup::find(words, id).ok_or(Errno::Enoent)?;
+    Ok(matrix::masks_at(words, drivers, slot, matrix))
 }
 
 // Whether a guest can use a queue: the device with the id is open, and the queue is in its guest masks.
 pub fn usable(words: &Words, drivers: &Drivers, id: Id, adapter: Apid, domain: Apqi) -> bool
     ensures { result ≡ usable_with id (state words.entry drivers.entry) (apqn adapter domain) }
 {
-    let slot = lookup::find(words, id);
+    match lookup::find(words, id) {
+        None => false,
+        Some(slot) => usable_at(words, drivers, slot, adapter, domain),
+    }
+}
+
+// The same for the guest of the device at a slot.
+fn usable_at(words: &Words, drivers: &Drivers, slot: usize, adapter: Apid, domain: Apqi) -> bool
+    ensures { result ≡ usable (state words.entry drivers.entry) (devices words.entry slot) (apqn adapter domain) }
+{
     if !record::is_open(words, slot) {
         return false;
     }

@@ -7,6 +7,8 @@ use mathlib.Core.Path.{◌≡◌, refl, sym, ap, ap₂, ◌∙◌}
 use mathlib.Core.Bool.{Bool, true, false, cond, ◌&&◌}
 use mathlib.Core.List.{List}
 use lib.ListN.{length}
+use lib.Dec.{ltb}
+use Rattle.std.proofs.Common.{Some, None}
 use borrow.Author.Tests.{lt-ltb, le-ltb}
 use Rattle.errno.specs.Errno.{number_of}
 use Rattle.errno.specs.declared.Errno.TheVariants.{Enoent, Enospc}
@@ -15,16 +17,15 @@ use Rattle.mask.proofs.Laws.{count_cong, count_add}
 use Rattle.rules.specs.declared.Id.{Id}
 use Rattle.rules.specs.declared.Masks.{Masks}
 use Rattle.rules.specs.declared.Matrix.{Matrix}
-use Rattle.rules.specs.State.{State, slots, in_product}
-use Rattle.rules.specs.Commands.{answered, slot_of}
+use Rattle.rules.specs.State.{slots, in_product}
+use Rattle.rules.specs.Commands.{found, slot_of}
+use Rattle.rules.proofs.First.{found_some, found_nothing}
 use Rattle.rules.proofs.Products.{in_product_lem}
 use Rattle.layout.specs.Layout.{state_in, device_in}
 use Rattle.matrix.specs.HasMasks.{HasMasks}
 use Rattle.lines.specs.Lines.{line_size, queues_at}
-use Rattle.lines.specs.Written.{Written}
 use Rattle.lines.proofs.Laws.{count_queues}
-use Rattle.listing.specs.Listed.{Listing, matrix, list_errno}
-use Rattle.listing.specs.declared.Listed.{Listed}
+use Rattle.listing.specs.Listed.{matrix, list_errno}
 
 -- ---- how many queues
 
@@ -54,30 +55,24 @@ matrix_lines a d = count_queues (in_product a d) ∙ rows 256 (count_below 256 d
 
 -- ---- a whole call
 
-module _ (ws qs : List ℕ) (i : Id) {p : ℕ} (at : p ≡ slot_of i (device_in ws)) where
-  pub errno_absent : (n : ℕ) → slots ≤ p → list_errno (state_in ws qs) i n ≡ number_of Enoent
+module _ (ws qs : List ℕ) (i : Id) where
+  pub errno_absent : (n : ℕ) → None ≡ found (slot_of i (device_in ws)) → number_of Enoent ≡ list_errno (state_in ws qs) i n
   unfolding list_errno state_in
-  errno_absent n h = rw (← at, le-ltb p slots h)
+  errno_absent n h = rw (le-ltb (slot_of i (device_in ws)) slots (found_nothing h))
 
-  pub errno_short : (n : ℕ) → p < slots → n < line_size → list_errno (state_in ws qs) i n ≡ number_of Enospc
-  unfolding list_errno state_in
-  errno_short n h l = rw (← at, lt-ltb p slots h, lt-ltb n line_size l)
+  module _ {p : ℕ} (at : Some p ≡ found (slot_of i (device_in ws))) where
+    there : ltb (slot_of i (device_in ws)) slots ≡ true
+    there = let here = found_some at in lt-ltb (slot_of i (device_in ws)) slots (rw here.1 at here.0)
 
-  pub errno_none : (n : ℕ) → p < slots → line_size ≤ n → list_errno (state_in ws qs) i n ≡ 0
-  unfolding list_errno state_in
-  errno_none n h l = rw (← at, lt-ltb p slots h, le-ltb n line_size l)
+    pub errno_short : (n : ℕ) → n < line_size → number_of Enospc ≡ list_errno (state_in ws qs) i n
+    unfolding list_errno state_in
+    errno_short n l = rw (there, lt-ltb n line_size l)
 
-  pub matrix_at : {w : Matrix} {m : Masks} → HasMasks w (state_in ws qs) (device_in ws p) m
-      → in_product (bits m.adapters) (bits m.domains) ≡ matrix (state_in ws qs) i w
-  unfolding matrix state_in
-  matrix_at h = rw (← at) (ap₂ in_product h.adapters h.domains)
+    pub errno_none : (n : ℕ) → line_size ≤ n → 0 ≡ list_errno (state_in ws qs) i n
+    unfolding list_errno state_in
+    errno_none n l = rw (there, le-ltb n line_size l)
 
-module _ {s : State} {i : Id} {w : Matrix} {place : ℕ} {before : List ℕ} (r : Listed) where
-  pub refused_listing : (n : ℕ) → 0 < n → answered r.answer ≡ n → list_errno s i (length before) ≡ n → r.written ≡ 0 → r.next ≡ place
-      → Listing s i w place before before r
-  refused_listing n h a l p q =
-      record { answer = a ∙ sym l; accepted = λ e. absurd (omega (arith, a, e)); refused = λ e. record { text = refl; written = p; next = q } }
-
-  pub written_listing : {after : List ℕ} {m : Bits} → answered r.answer ≡ 0 → list_errno s i (length before) ≡ 0 → m ≡ matrix s i w
-      → Written m place before after r.written r.next → Listing s i w place before after r
-  written_listing a l e f = record { answer = a ∙ sym l; accepted = λ h. rw e at f; refused = λ h. absurd (h a) }
+    pub matrix_at : {w : Matrix} {m : Masks} → HasMasks w (state_in ws qs) (device_in ws p) m
+        → in_product (bits m.adapters) (bits m.domains) ≡ matrix (state_in ws qs) i w
+    unfolding matrix state_in
+    matrix_at h = rw (← (found_some at).1) (ap₂ in_product h.adapters h.domains)

@@ -20,9 +20,9 @@ use Rattle.rules.specs.Queues.{reserved, configured}
 abbrev pub Answer : Type 0
 Answer = Result (Unit {0}) Errno
 
--- the errno value of an answer; 0 is no refusal
-abbrev pub answered : Answer → ℕ
-answered (Ok u) = 0
+-- the errno value of an answer, here or with a value; 0 is no refusal
+abbrev pub answered : {A : Type 0} → Result A Errno → ℕ
+answered (Ok x) = 0
 answered (Err e) = number_of e
 
 -- the errno value of an outcome; 0 is no refusal

@@ -1,5 +1,5 @@
 -- `unassign` meets its contract: the rule where the number goes.
-use mathlib.Core.Path.{sym, ◌∙◌}
+use Rattle.std.proofs.lemmas.Result.{err_from_is_err_and}
 use Rattle.rules.specs.Commands.{unassign_at}
 use Rattle.assignnumber.specs.Numbers.{unassigned_from, unassigned_at}
 use Rattle.assignnumber.proofs.Laws.{goes, at_located, not_located}
@@ -8,16 +8,17 @@ use Rattle.assignnumber.proofs.unassign.Goals as goal
 pub unassign_at-requires : goal.unassign_at-requires
 unassign_at-requires c =
     let a = c.args in
-    (goes a.kind a.id a.number a.words.now (sym c.in-At.is ∙ c.locate.ensures)).there
+    (goes a.kind a.id a.number a.words.now c.in_ok-slot.ensures).there
 
-pub returns-in-At : goal.returns-in-At
-returns-in-At c =
+pub returns-in_err-slot : goal.returns-in_err-slot
+returns-in_err-slot c =
     let a = c.args in
-    at_located a.kind a.id a.number a.words.now (unassign_at a.kind) (unassigned_at a.kind)
-    (sym c.in-At.is ∙ c.locate.ensures) c.unassign_at.ensures
+    let p = err_from_is_err_and c.from_residual.result c.from_residual.ensures.1 in
+    let done = not_located a.kind a.id a.number a.words.now (unassign_at a.kind) (unassigned_from a.kind a.id a.number) c.in_err-slot.ensures in
+    rw (p.1, p.2) done
 
-pub returns-in-Nowhere : goal.returns-in-Nowhere
-returns-in-Nowhere c =
+pub returns : goal.returns
+returns c =
     let a = c.args in
-    not_located a.kind a.id a.number a.words.now (unassign_at a.kind) (unassigned_from a.kind a.id a.number)
-    (sym c.in-Nowhere.is ∙ c.locate.ensures)
+    let done = at_located a.kind a.id a.number a.words.now (unassign_at a.kind) (unassigned_at a.kind) c.in_ok-slot.ensures c.unassign_at.ensures in
+    done

@@ -1,28 +1,15 @@
 -- `usable` meets its contract.
-use mathlib.Core.Path.{refl, sym, ap, ◌∙◌}
-use mathlib.Core.Bool.{true, false}
+use Rattle.std.proofs.Common.{◌∙◌}
 use Rattle.rules.specs.State.{apqn}
-use Rattle.rules.specs.Queues.{matrix_adapters, matrix_domains}
-use Rattle.product.specs.Meet.{queues_of}
-use Rattle.product.proofs.Laws.{has_test}
-use Rattle.guest.proofs.Laws.{usable_at}
+use Rattle.guest.proofs.Laws.{usable_found, usable_nowhere}
 use Rattle.guest.proofs.usable.Goals as goal
 
-pub returns-then-not-is_open : goal.returns-then-not-is_open
-returns-then-not-is_open c =
-    let f = c in
-    let a = f.args in
-    usable_at a.words.now a.drivers.now a.id (apqn a.adapter a.domain) false f.find-slot.ensures
-    (sym c.is_open.ensures ∙ c.if-not-is_open.true) refl refl
+pub returns-in-None : goal.returns-in-None
+returns-in-None c =
+    let a = c.args in
+    usable_nowhere a.words.now a.drivers.now a.id (apqn a.adapter a.domain) c.in-None.ensures
 
-pub returns : goal.returns
-unfolding matrix_adapters matrix_domains
-returns c =
-    let p = c in
-    let m = p in
-    let o = m in
-    let f = o in
-    let a = f.args in
-    has_test (apqn a.adapter a.domain) c.has.ensures (ap queues_of p.of-product.ensures)
-    ∙ usable_at a.words.now a.drivers.now a.id (apqn a.adapter a.domain) true f.find-slot.ensures
-    (sym o.is_open.ensures ∙ o.if-not-is_open.false) m.masks_at-m.ensures.adapters m.masks_at-m.ensures.domains
+pub returns-in-Some : goal.returns-in-Some
+returns-in-Some c =
+    let a = c.args in
+    c.usable_at.ensures ∙ usable_found a.words.now a.drivers.now a.id (apqn a.adapter a.domain) c.in-Some.ensures

@@ -1,42 +1,37 @@
 -- `list` meets its contract: it is refused, or the lines of the matrix are written.
-use native.Mathlib.Omega.{arith}
-use mathlib.Core.Path.{refl, ap, ◌∙◌}
-use lib.ListN.{length}
-use Rattle.errno.specs.Errno.{number_of}
-use Rattle.errno.specs.declared.Errno.TheVariants.{Enoent, Enospc}
-use Rattle.rules.specs.Commands.{answered}
+use Rattle.std.proofs.Common.{Some, None, ◌≡◌, refl, ap, ◌∙◌, arith, length}
+use Rattle.std.proofs.lemmas.Result.{err_from_is_err_and}
+use Rattle.errno.specs.declared.Errno.TheVariants.{Enoent}
 use Rattle.product.specs.Meet.{queues_of}
-use Rattle.listing.proofs.Laws.{refused_listing, written_listing, errno_absent, errno_short, errno_none, matrix_at}
+use Rattle.listing.proofs.Laws.{errno_absent, errno_short, errno_none, matrix_at}
 use Rattle.listing.proofs.list.Goals as goal
 
-pub returns-then-slot-ge-SLOTS : goal.returns-then-slot-ge-SLOTS
-unfolding number_of
-returns-then-slot-ge-SLOTS c =
-    let f = c in
-    let a = f.args in
-    refused_listing c.refused.result (number_of Enoent) (omega arith) c.refused.ensures.0
-    (errno_absent a.words.now a.drivers.now a.id f.find-slot.ensures (length a.buf.now) (omega arith))
-    c.refused.ensures.1
-    c.refused.ensures.2
+pub returns-in_err-slot : goal.returns-in_err-slot
+returns-in_err-slot c =
+    let a = c.args in
+    let p = err_from_is_err_and c.from_residual.result c.from_residual.ensures.1 in
+    let none : None ≡ c.find.result = grind arith in
+    let e : c.in_err-slot.field-0.0 ≡ Enoent = grind arith in
+    rw (p.1, p.2, e)
+    (record { answer = errno_absent a.words.now a.drivers.now a.id (length a.buf.now) (none ∙ c.find.ensures); accepted = tt; refused = refl })
 
 pub returns-then-buf-lt-LINE : goal.returns-then-buf-lt-LINE
-unfolding number_of
 returns-then-buf-lt-LINE c =
-    let f = c in
-    let a = f.args in
-    refused_listing c.refused-then-buf-lt-LINE.result (number_of Enospc) (omega arith) c.refused-then-buf-lt-LINE.ensures.0
-    (errno_short a.words.now a.drivers.now a.id f.find-slot.ensures (length a.buf.now) (omega arith) (omega arith))
-    c.refused-then-buf-lt-LINE.ensures.1
-    c.refused-then-buf-lt-LINE.ensures.2
+    let a = c.args in
+    let some : Some c.in_ok-slot.slot ≡ c.find.result = grind arith in
+    record {
+      answer = errno_short a.words.now a.drivers.now a.id (some ∙ c.find.ensures) (length a.buf.now) (omega arith);
+      accepted = tt;
+      refused = refl;
+    }
 
 pub returns : goal.returns
 returns c =
-    let w = c.write-r in
-    let p = c in
-    let m = p in
-    let f = m in
-    let a = f.args in
-    written_listing _ refl
-    (errno_none a.words.now a.drivers.now a.id f.find-slot.ensures (length a.buf.now) (omega arith) (omega arith))
-    (ap queues_of p.of.ensures ∙ matrix_at a.words.now a.drivers.now a.id f.find-slot.ensures m.masks_at-m.ensures)
-    w.ensures
+    let a = c.args in
+    let some : Some c.in_ok-slot.slot ≡ c.find.result = grind arith in
+    let queues = ap queues_of c.of.ensures ∙ matrix_at a.words.now a.drivers.now a.id (some ∙ c.find.ensures) c.masks_at-m.ensures in
+    record {
+      answer = errno_none a.words.now a.drivers.now a.id (some ∙ c.find.ensures) (length a.buf.now) (omega arith);
+      accepted = rw queues at c.write.ensures;
+      refused = tt;
+    }

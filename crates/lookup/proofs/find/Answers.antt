@@ -1,7 +1,6 @@
 -- `find` meets its contract.
-use Rattle.std.proofs.Common.{arith, refl, sym, ap, ◌≡◌, ◌∙◌, ◌<◌, ◌≤◌}
-use Rattle.rules.specs.State.{slots}
-use Rattle.rules.specs.Commands.{slot_of, found}
+use Rattle.std.proofs.Common.{arith, refl, sym, ◌∙◌}
+use Rattle.rules.specs.Commands.{slot_of}
 use Rattle.rules.proofs.First.{turn_here, turn_next, turn_end, found_at, found_none}
 use Rattle.lookup.proofs.find.Invariants.{here}
 use Rattle.lookup.proofs.find.Goals as goal

@@ -1,5 +1,5 @@
 -- `free` meets its contract.
-use Rattle.std.proofs.Common.{arith, refl, sym, ap, not, ◌≡◌, ◌∙◌}
+use Rattle.std.proofs.Common.{arith, refl, sym, ap, not, ◌∙◌}
 use Rattle.rules.specs.Commands.{free_slot}
 use Rattle.rules.proofs.First.{turn_here, turn_next, turn_end, found_at, found_none}
 use Rattle.lookup.proofs.free.Invariants.{empty}
