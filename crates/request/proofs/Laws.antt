@@ -8,8 +8,12 @@ use mathlib.Core.Path.{◌≡◌, refl, sym, ap, subst, ◌∙◌}
 use lib.Dec.{eqb}
 use lib.ListN.{get_or, drop}
 use borrow.Author.Tests.{ne_eqb, le-leb, lt-leb}
+<<<<<<< HEAD
 use Rattle.rules.specs.declared.Id.{Id}
 use Rattle.rules.specs.declared.Kind.{Kind}
+=======
+use Rattle.rules.specs.declared.Answer.{Answer}
+>>>>>>> c0c7f6da5a1433ca589d915c1236a44af3a98bc9
 use Rattle.rules.specs.declared.Moved.{Moved}
 use Rattle.rules.specs.State.{State}
 use Rattle.rules.specs.Queues.{move_answer, moved_number, remaining}
@@ -24,7 +28,7 @@ use Rattle.model.specs.Steps as Steps
 use Rattle.model.specs.Sweeps.{sweep_steps}
 use Rattle.model.proofs.Sweeping.{sweep_steps_lem}
 use Rattle.calls.specs.Calls.{effect, Call, moves, sweeps}
-use Rattle.fields.specs.Fields.{half_at, id_of, kind_of, configuration_of}
+use Rattle.fields.specs.Fields.{half_at, id_of, kind_of}
 use Rattle.encoding.specs.Encoding.{Request, command, move, sweep, command_of, request_of}
 use Rattle.request.specs.Requests.{steps_for, leaves, answer_byte, Stepped}
 
@@ -36,17 +40,6 @@ pub obeyed : {x y : Command} {m n : Memory} {r : Answer} → x ≡ y → Carried
     → Stepped (command x) m n (answered r)
 unfolding answer_byte leaves steps_for
 obeyed {x} {y} {m} {n} {r} e c k = as_asked (ap command e) (record { answer = c.answer; memory = c.bytes; call = (answered r ∷ [], k) })
-
--- the operation is n
-pub at_op : {op : ℕ} (n : ℕ) (k : Kind) (i : Id) (text : List ℕ) → op ≡ n → command_of op k i text ≡ command_of n k i text
-at_op n k i text e = ap (λ (o : ℕ). command_of o k i text) e
-
--- an operation that is not one of the first eight
-pub is_configure : (op : ℕ) (k : Kind) (i : Id) (text : List ℕ) → (op ≡ 0 → ⊥) → (op ≡ 1 → ⊥) → (op ≡ 2 → ⊥) → (op ≡ 3 → ⊥) → (op ≡ 4 → ⊥)
-    → (op ≡ 5 → ⊥) → (op ≡ 6 → ⊥) → (op ≡ 7 → ⊥) → command_of op k i text ≡ configure (configuration_of text)
-unfolding command_of
-is_configure op k i text h0 h1 h2 h3 h4 h5 h6 h7 =
-    rw (ne_eqb op 0 h0, ne_eqb op 1 h1, ne_eqb op 2 h2, ne_eqb op 3 h3, ne_eqb op 4 h4, ne_eqb op 5 h5, ne_eqb op 6 h6, ne_eqb op 7 h7)
 
 -- a move of the queue of two bytes
 pub moved : (a d : ℕ) (ws qs rs : List ℕ) (r : ℕ) (m : Moved) → a < 256 → d < 256 → r ≡ moved_number m → Moving (a * 256 + d) ws qs rs m

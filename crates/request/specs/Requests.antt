@@ -2,20 +2,18 @@
 -- The rules: RULES.md, "Reference model and demand 3".
 -- Assumes nothing.
 use Rattle.std.specs.Prelude.{ℕ, min, cond, List, [], ◌∷◌, ◌≡◌, eqb}
-use Rattle.rules.specs.declared.Id.{Id}
-use Rattle.rules.specs.declared.Kind.{Kind}
 use Rattle.rules.specs.State.{State, queues}
 use Rattle.rules.specs.Queues.{moved_number, move_answer, remaining, most_moves}
 use Rattle.rules.specs.Commands.{Answer, answered, errno_of}
-use Rattle.layout.specs.Lent.{Lent, LentMut}
+use Rattle.layout.specs.Lent.{LentMut}
 use Rattle.layout.specs.Carried.{Memory, memory, read, memory_after}
 use Rattle.bind.specs.Moves.{move_bytes}
 use Rattle.sweep.specs.Sweeps.{sweep_bytes}
-use Rattle.model.specs.Steps.{Step, queue_of, rule, after_all}
+use Rattle.model.specs.Steps.{Step, Command, queue_of, rule, after_all}
 use Rattle.model.specs.Steps as Steps
 use Rattle.model.specs.Sweeps.{sweep_steps}
 use Rattle.calls.specs.Calls.{effect, Call}
-use Rattle.encoding.specs.Encoding.{Request, command, move, sweep, command_of}
+use Rattle.encoding.specs.Encoding.{Request, command, move, sweep}
 
 -- the steps that a request stands for in a list of demand 3: a sweep stands in it as its moves
 unfoldable pub steps_for : Request → State → List Step
@@ -41,8 +39,8 @@ pub record Stepped (x : Request) (m n : Memory) (r : ℕ) : Type 0 where
   pub memory : n ≡ leaves x m
   pub call : (rs : List ℕ) × Call m n (steps_for x (read m)) rs
 
--- the command of an operation is carried out, of lent memory at entry and at exit
-abbrev pub Obeyed : ℕ → Kind → Id → Lent → LentMut → LentMut → LentMut → LentMut → Answer → Type 0
-Obeyed op k i text words words' drivers drivers' r =
-    Stepped (command (command_of op k i text.now)) (memory words.now drivers.now)
+-- a command is carried out, of lent memory at entry and at exit
+abbrev pub Obeyed : Command → LentMut → LentMut → LentMut → LentMut → Answer → Type 0
+Obeyed c words words' drivers drivers' r =
+    Stepped (command c) (memory words.now drivers.now)
     (memory words'.now drivers'.now) (answered r)

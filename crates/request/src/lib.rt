@@ -5,33 +5,30 @@
 
 ghost use Rattle.layout.specs.Carried.{memory};
 ghost use Rattle.encoding.specs.Encoding.{move, sweep};
+ghost use Rattle.encoding.specs.Meant.{meant};
 ghost use Rattle.request.specs.Requests.{Stepped, Obeyed};
 
+use encoding::Command;
 use layout::{Drivers, Words};
 use mask::{Apid, Apqi};
-use rules::{Answer, Id, Kind};
+use rules::Answer;
 
-// Carries out the command of an operation.
-pub fn command(
-    words: &mut Words,
-    drivers: &mut Drivers,
-    op: u8,
-    kind: Kind,
-    id: Id,
-    text: &[u8],
-) -> Answer
-    ensures { Obeyed op kind id text.entry words.entry words.exit drivers.entry drivers.exit result }
+// Carries out a command.
+pub fn command(words: &mut Words, drivers: &mut Drivers, command: Command) -> Answer
+    ensures { Obeyed (meant command.entry) words.entry words.exit drivers.entry drivers.exit result }
 {
-    match op {
-        0 => create::create(words, id),
-        1 => devices::remove(words, id),
-        2 => devices::open(words, id),
-        3 => devices::close(words, id),
-        4 => assign::assign(words, kind, id, text),
-        5 => assign::unassign(words, kind, id, text),
-        6 => host::set_apmask(words, text),
-        7 => host::set_aqmask(words, text),
-        _ => configure::configure(words, drivers, fields::configuration_of(text)),
+    match command {
+        Command::Create(id) => create::create(words, id),
+        Command::Remove(id) => devices::remove(words, id),
+        Command::Open(id) => devices::open(words, id),
+        Command::Close(id) => devices::close(words, id),
+        Command::Assign(kind, id, text) => assign::assign(words, kind, id, text),
+        Command::Unassign(kind, id, text) => assign::unassign(words, kind, id, text),
+        Command::SetApmask(text) => host::set_apmask(words, text),
+        Command::SetAqmask(text) => host::set_aqmask(words, text),
+        Command::Configure(bytes) => {
+            configure::configure(words, drivers, fields::configuration_of(bytes))
+        }
     }
 }
 
@@ -49,5 +46,5 @@ pub fn make_sweep(words: &Words, drivers: &mut Drivers, budget: u32) -> u8
         (memory words.now drivers.new) result }
 {
     let swept = sweep::sweep(words, drivers, budget);
-    if swept.more { 1 } else { 0 }
+    u8::from(swept.more)
 }

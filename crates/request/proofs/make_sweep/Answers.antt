@@ -1,18 +1,17 @@
 -- `make_sweep` meets its contract.
 use Prim.Native.Nat.{ℕ}
-use mathlib.Core.Bool.{Bool, cond}
-use mathlib.Core.Path.{sym, ap}
+use mathlib.Core.Bool.{Bool, true, false, cond}
+use mathlib.Core.Path.{◌≡◌, refl, ◌∙◌}
+use mir.Val.{bool_byte}
 use Rattle.request.proofs.Laws.{swept}
 use Rattle.request.proofs.make_sweep.Goals as goal
 
-pub returns-then-swept : goal.returns-then-swept
-returns-then-swept c =
-    let a = c.args in
-    let w = c.sweep-swept in
-    swept a.budget a.words.now a.drivers.now _ _ w.result (sym (ap (λ (b : Bool). cond {A = ℕ} b 1 0) c.if-swept.true)) w.ensures
+as_byte : (b : Bool) → bool_byte b ≡ cond {A = ℕ} b 1 0
+as_byte true = refl
+as_byte false = refl
 
-pub returns-else-swept : goal.returns-else-swept
-returns-else-swept c =
+pub returns : goal.returns
+returns c =
     let a = c.args in
     let w = c.sweep-swept in
-    swept a.budget a.words.now a.drivers.now _ _ w.result (sym (ap (λ (b : Bool). cond {A = ℕ} b 1 0) c.if-swept.false)) w.ensures
+    swept a.budget a.words.now a.drivers.now _ _ w.result (c.from.ensures ∙ as_byte w.result.more) w.ensures
