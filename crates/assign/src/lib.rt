@@ -5,27 +5,21 @@
 
 ghost use Rattle.assign.specs.Numbers.{Assigns, Unassigns};
 
-use errno::Errno;
 use layout::Words;
-use number::Number;
 use rules::{Answer, Id, Kind};
 
 // Assigns the number that a text says.
 pub fn assign(words: &mut Words, kind: Kind, id: Id, text: &[u8]) -> Answer
     ensures { Assigns kind id text.entry words.entry words.exit result }
 {
-    match number::parse(text) {
-        Number::Value(n) => assignnumber::assign(words, kind, id, u64::from(n)),
-        Number::Bad => Err(Errno::Einval),
-    }
+    let n = number::parse(text)?;
+    assignnumber::assign(words, kind, id, u64::from(n))
 }
 
 // Takes away the number that a text says.
 pub fn unassign(words: &mut Words, kind: Kind, id: Id, text: &[u8]) -> Answer
     ensures { Unassigns kind id text.entry words.entry words.exit result }
 {
-    match number::parse(text) {
-        Number::Value(n) => assignnumber::unassign(words, kind, id, u64::from(n)),
-        Number::Bad => Err(Errno::Einval),
-    }
+    let n = number::parse(text)?;
+    assignnumber::unassign(words, kind, id, u64::from(n))
 }

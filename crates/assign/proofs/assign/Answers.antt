@@ -1,19 +1,19 @@
 -- `assign` meets its contract: the number that the text says, or the refusal of bad text.
 use mathlib.Core.Path.{sym, ap, ◌∙◌}
-use Rattle.errno.specs.declared.Errno.TheVariants.{Einval}
-use Rattle.errno.specs.Outcome.{granted}
-use Rattle.number.specs.Text.{outcome}
+use Rattle.std.proofs.lemmas.Result.{err_from_is_err_and}
+use Rattle.errno.specs.Outcome.{granted, outcome}
 use Rattle.assign.proofs.Laws.{assigned_by, not_assigned}
 use Rattle.assign.proofs.assign.Goals as goal
 
-pub returns-in-Value : goal.returns-in-Value
+pub returns-in_err-n : goal.returns-in_err-n
 unfolding outcome
-returns-in-Value c =
+returns-in_err-n c =
     let a = c.args in
-    assigned_by a.kind a.id a.text.now a.words.now c.from.result (sym c.parse.ensures ∙ ap outcome c.in-Value.is ∙ ap granted (sym c.from.ensures)) c.assign.ensures.rule
+    let p = err_from_is_err_and c.from_residual.result c.from_residual.ensures.1 in
+    rw (p.1, p.2) (not_assigned a.kind a.id a.text.now a.words.now c.in_err-n.field-0.0 (sym c.in_err-n.ensures))
 
-pub returns-in-Bad : goal.returns-in-Bad
+pub returns : goal.returns
 unfolding outcome
-returns-in-Bad c =
+returns c =
     let a = c.args in
-    not_assigned a.kind a.id a.text.now a.words.now Einval (sym c.parse.ensures ∙ ap outcome c.in-Bad.is)
+    assigned_by a.kind a.id a.text.now a.words.now c.from.result (sym c.in_ok-n.ensures ∙ ap granted (sym c.from.ensures)) c.assign.ensures.rule
