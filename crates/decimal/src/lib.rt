@@ -3,33 +3,25 @@
 // Rests on nothing.
 #![tactic(auto)]
 
-ghost use Rattle.std.specs.Prelude.{◌≡◌, ◌+◌, ◌%◌, ◌++◌, length, replicate};
-ghost use Rattle.decimal.specs.Decimal.{decimal, most};
+ghost use Rattle.std.specs.Prelude.{◌≡◌, ◌+◌, ◌%◌};
+ghost use Rattle.decimal.specs.Decimal.{decimal};
 
 // The most digits of a number of 32 bits.
 pub const DIGITS: usize = 10;
 
-// The digits of a number stand at the end: from an index on; before them zeros.
-#[derive(Clone, Copy)]
-pub struct Decimal {
-    pub bytes: [u8; DIGITS],
-    pub from: usize,
-}
-
-// The digits of a number, the highest one first, with no zeros in front.
-pub fn write(n: u32) -> Decimal
-    ensures { (result.bytes ≡ replicate result.from 0 ++ decimal n) × (result.from + length (decimal n) ≡ most) }
+// The digits of a number, the highest one first, with no zeros in front, as a part of the lent buffer: its end.
+pub fn write(n: u32, buffer: &mut [u8; DIGITS]) -> &[u8]
+    ensures { result.now ≡ decimal n }
 {
-    let mut bytes = [0u8; DIGITS];
     let mut from = DIGITS - 1;
     let mut rest = n;
-    bytes[from] = digit(rest);
+    buffer[from] = digit(rest);
     while 10 <= rest {
         rest /= 10;
         from -= 1;
-        bytes[from] = digit(rest);
+        buffer[from] = digit(rest);
     }
-    Decimal { bytes, from }
+    &buffer[from..]
 }
 
 // The last digit of a number.
