@@ -104,7 +104,7 @@ four_path : {a b c d a' b' c' d' : ℕ} → a ≡ a' → b ≡ b' → c ≡ c' �
 four_path p q r s = λ i. p i ∷ q i ∷ r i ∷ s i ∷ []
 
 -- four words are the list of them
-four_of : (m : List ℕ) → length m ≡ 4 → get_or m 0 0 ∷ get_or m 1 0 ∷ get_or m 2 0 ∷ get_or m 3 0 ∷ [] ≡ m
+pub four_of : (m : List ℕ) → length m ≡ 4 → get_or m 0 0 ∷ get_or m 1 0 ∷ get_or m 2 0 ∷ get_or m 3 0 ∷ [] ≡ m
 four_of m e =
     ext_get_or 0 (get_or m 0 0 ∷ get_or m 1 0 ∷ get_or m 2 0 ∷ get_or m 3 0 ∷ []) m (sym e)
     (below_four (λ q. get_or (get_or m 0 0 ∷ get_or m 1 0 ∷ get_or m 2 0 ∷ get_or m 3 0 ∷ []) q 0 ≡ get_or m q 0) refl refl refl refl)

@@ -19,18 +19,14 @@ fn put_mask(words: &mut Words, at: usize, mask: Mask)
     requires { at + 3 < word_count }
     ensures { words.new ≡ put_four words.old at mask.words }
 {
-    let w = mask.words;
-    words[at] = w[0];
-    words[at + 1] = w[1];
-    words[at + 2] = w[2];
-    words[at + 3] = w[3];
+    words[at..at + 4].copy_from_slice(&mask.words);
 }
 
 pub fn put_limits(words: &mut Words, adapter: Apid, domain: Apqi)
     ensures { words.new ≡ put_limits words.old adapter.0 domain.0 }
 {
-    words[MAX_ADAPTER] = adapter.0 as u64;
-    words[MAX_DOMAIN] = domain.0 as u64;
+    words[MAX_ADAPTER] = u64::from(adapter.0);
+    words[MAX_DOMAIN] = u64::from(domain.0);
 }
 
 pub fn put_apmask(words: &mut Words, mask: Mask)
@@ -61,7 +57,7 @@ pub fn put_open(words: &mut Words, slot: usize, opened: bool)
     ensures { words.new ≡ put_open words.old slot opened }
 {
     if slot < SLOTS {
-        words[FIRST_SLOT + slot * SLOT_WORDS + OPEN] = if opened { 1 } else { 0 };
+        words[FIRST_SLOT + slot * SLOT_WORDS + OPEN] = u64::from(opened);
     }
 }
 
@@ -71,18 +67,14 @@ pub fn put_device(words: &mut Words, slot: usize, present: bool, id: Id)
 {
     if slot < SLOTS {
         let k = FIRST_SLOT + slot * SLOT_WORDS;
-        let zeros = Mask { words: [0u64; 4] };
-        let first = if present { 1u64 } else { 0u64 };
-        put_mask(
-            words,
-            k,
-            Mask {
-                words: [first, 0, id.hi, id.lo],
-            },
-        );
-        put_mask(words, k + 4, zeros);
-        put_mask(words, k + 8, zeros);
-        put_mask(words, k + 12, zeros);
+        let first = Mask {
+            words: [u64::from(present), 0, id.hi, id.lo],
+        };
+        let none = Mask::empty();
+        put_mask(words, k, first);
+        put_mask(words, k + 4, none);
+        put_mask(words, k + 8, none);
+        put_mask(words, k + 12, none);
     }
 }
 
@@ -102,15 +94,13 @@ pub fn put_configuration(words: &mut Words, configuration: Configuration)
 fn put_types(words: &mut Words, adapters: Mask, types: [u8; 256])
     ensures { words.new ≡ put_types words.old (λ a. cond (bits adapters a) (get_or types a 0) 0) 256 }
 {
-    let mut a = 0usize;
-    while a < 256 {
-        words[TYPES + a] = type_of(adapters.has_adapter(Apid((a % 256) as u8)), types[a]);
-        a += 1;
+    for (a, t) in types.iter().enumerate() {
+        words[TYPES + a] = type_of(adapters.has_adapter(Apid(a as u8)), *t);
     }
 }
 
 fn type_of(configured: bool, t: u8) -> u64
     ensures { result ≡ cond configured t 0 }
 {
-    if configured { t as u64 } else { 0 }
+    if configured { u64::from(t) } else { 0 }
 }

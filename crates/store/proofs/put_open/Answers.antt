@@ -1,20 +1,15 @@
 -- `put_open` meets its contract.
-use Prim.Native.Nat.{◌+◌, ◌*◌}
-use native.Mathlib.Omega.{arith}
-use mathlib.Core.Path.{sym, ap, ◌∙◌}
-use mathlib.Core.Bool.{Bool, cond}
-use lib.ListN.{set}
+use Rattle.std.proofs.Common.{ap, ◌∙◌, ◌+◌, ◌*◌, arith, set}
 use borrow.Author.Tests.{lt-ltb, le-ltb}
 use Rattle.layout.specs.Layout.{put_open}
+use Rattle.store.proofs.Laws.{flag_byte}
 use Rattle.store.proofs.put_open.Goals as goal
-use Rattle.store.proofs.put_open.Goals.{then-opened, else-opened}
 
-pub returns-after-opened : goal.returns-after-opened
+pub returns-then-slot-lt-SLOTS : goal.returns-then-slot-lt-SLOTS
 unfolding put_open
-returns-after-opened c =
+returns-then-slot-lt-SLOTS c =
     let a = c.args in
-    simp (lt-ltb a.slot 8 (omega arith)) (ap (set a.words.now (278 + a.slot * 16 + 1))
-    (elim c.if-opened.branch [ then-opened w ↦ w.words-is ∙ sym (ap (λ (b : Bool). cond b 1 0) w.if-opened.true) | else-opened w ↦ w.words-is ∙ sym (ap (λ (b : Bool). cond b 1 0) w.if-opened.false) ]))
+    simp (lt-ltb a.slot 8 (omega arith)) (ap (set a.words.now (278 + a.slot * 16 + 1)) (c.from.ensures ∙ flag_byte a.opened))
 
 pub returns-else-slot-lt-SLOTS : goal.returns-else-slot-lt-SLOTS
 unfolding put_open
