@@ -1,6 +1,6 @@
 // A device's matrix as bytes, for a caller in C: three masks of 32 bytes.
 //
-// Rests on copy, mask, maskbytes, rules, layout and guest.
+// Rests on errno, copy, mask, maskbytes, rules, layout and guest.
 #![tactic(auto)]
 
 ghost use Rattle.std.specs.Prelude.{◌≡◌, ◌+◌, ◌≤◌, length};
@@ -27,27 +27,22 @@ pub fn masks(
 ) -> u8
     ensures { MasksShown (Shows (state words.entry drivers.entry) id matrix) out.entry out.exit result }
 {
-    let shown = guest::masks(words, drivers, id, matrix);
-    let answer = shown.answer;
-    let e = rules::answer_number(answer);
-    if 0 < e {
-        return e;
+    match guest::masks(words, drivers, id, matrix) {
+        Ok(m) => {
+            put_masks(m, out);
+            0
+        }
+        Err(e) => errno::number(e),
     }
-    let m = shown.masks;
-    put_masks(m, out);
-    e
 }
 
 // Three masks, one after the other.
 pub fn put_masks(masks: Masks, out: &mut [u8; MASKS_BYTES])
     ensures { out.new ≡ masks_bytes masks }
 {
-    let adapters = masks.adapters;
-    let domains = masks.domains;
-    let controls = masks.controls;
-    put_mask(adapters, out, 0);
-    put_mask(domains, out, 32);
-    put_mask(controls, out, 64);
+    put_mask(masks.adapters, out, 0);
+    put_mask(masks.domains, out, 32);
+    put_mask(masks.controls, out, 64);
 }
 
 // The bytes of a mask, from an index on.

@@ -9,7 +9,7 @@ ghost use Rattle.seen.specs.Seen.{DeviceShown, HolderShown};
 
 use errno::Errno;
 use fields::ID_BYTES;
-use layout::{SLOTS, Words};
+use layout::Words;
 use mask::{Apid, Apqi};
 
 // Leaves the id of the device in a slot, and 1 or 0 for whether it is open.
@@ -28,10 +28,11 @@ pub fn device(words: &Words, slot: usize, id: &mut [u8; ID_BYTES], mark: &mut u8
 pub fn holder(words: &Words, adapter: Apid, domain: Apqi, id: &mut [u8; ID_BYTES]) -> u8
     ensures { HolderShown (devices words.entry) (apqn adapter domain) id.entry id.exit result }
 {
-    let slot = holder::holder(words, adapter, domain);
-    if SLOTS <= slot {
-        return errno::number(Errno::Enoent);
+    match holder::holder(words, adapter, domain) {
+        None => errno::number(Errno::Enoent),
+        Some(slot) => {
+            *id = idbytes::to_bytes(record::id(words, slot));
+            0
+        }
     }
-    *id = idbytes::to_bytes(record::id(words, slot));
-    0
 }

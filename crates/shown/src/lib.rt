@@ -1,9 +1,9 @@
 // What a caller in C is shown: answers with what they leave behind references. A refused call leaves what was there.
 //
-// Rests on rules, layout, sweep and listing.
+// Rests on errno, rules, layout, lines, sweep and listing.
 #![tactic(auto)]
 
-ghost use Rattle.std.specs.Prelude.{◌≡◌, cond, eqb};
+ghost use Rattle.std.specs.Prelude.{◌≡◌};
 ghost use Rattle.layout.specs.Lent.{state};
 ghost use Rattle.sweep.specs.Sweeps.{Sweeps};
 ghost use Rattle.listing.specs.Listed.{Listing};
@@ -36,25 +36,18 @@ pub fn list(
     ensures { ListShown (Listing (state words.entry drivers.entry) id matrix place
         buf.old buf.new) written.entry written.exit next.entry next.exit result }
 {
-    let r = listing::list(words, drivers, id, matrix, place, buf);
-    let answer = r.answer;
-    let e = rules::answer_number(answer);
-    leave(e, r.written, written);
-    leave(e, r.next, next);
-    e
+    match listing::list(words, drivers, id, matrix, place, buf) {
+        Ok(filled) => {
+            *written = filled.written;
+            *next = filled.next;
+            0
+        }
+        Err(e) => errno::number(e),
+    }
 }
 
 pub fn flag(b: bool) -> u8
     ensures { result ≡ bit b }
 {
-    if b { 1 } else { 0 }
-}
-
-// Leaves a number, unless the call is refused.
-fn leave(errno: u8, number: usize, out: &mut usize)
-    ensures { out.new ≡ cond (eqb errno 0) number out.old }
-{
-    if errno == 0 {
-        *out = number;
-    }
+    u8::from(b)
 }

@@ -12,10 +12,10 @@ loop-coming-preserved c =
     let l = c.loop-coming in
     elim c.if-has_domain.branch [
       | then-has_domain w ↦
-        rw (w.text-is, w.at-is)
-        (sofar_line l.invariant (omega arith) (sym c.has_domain.ensures ∙ w.if-has_domain.true) w.put_line.ensures)
+          rw (w.text-is, w.at-is)
+          (sofar_line l.invariant (omega arith) (sym c.has_domain.ensures ∙ w.if-has_domain.true) w.put_line.ensures)
       | else-has_domain w ↦
-        rw (w.text-is, w.at-is) (sofar_skip l.invariant (omega arith) (sym c.has_domain.ensures ∙ w.if-has_domain.false))
+          rw (w.text-is, w.at-is) (sofar_skip l.invariant (omega arith) (sym c.has_domain.ensures ∙ w.if-has_domain.false))
     ]
 
 pub returns : goal.returns

@@ -1,17 +1,17 @@
 -- `holder` meets its contract: the id of the device in the slot that was found, or nothing.
-use native.Mathlib.Omega.{arith}
-use mathlib.Core.Path.{refl}
+use Rattle.std.proofs.Common.{refl, arith}
+use Rattle.rules.proofs.First.{found_some, found_nothing}
 use Rattle.seen.proofs.holder.Goals as goal
 
-pub returns-then-slot-ge-SLOTS : goal.returns-then-slot-ge-SLOTS
-returns-then-slot-ge-SLOTS c =
-    let h = c.holder-slot.ensures in
+pub returns-in-None : goal.returns-in-None
+returns-in-None c =
+    let none = found_nothing c.in-None.ensures in
     record { held = λ l. absurd (omega arith); free = λ l. (c.number.ensures, refl) }
 
-pub returns : goal.returns
-returns c =
-    let h = c.holder-slot.ensures in
+pub returns-in-Some : goal.returns-in-Some
+returns-in-Some c =
+    let at = found_some c.in-Some.ensures in
     record {
-      held = λ l. (refl, rw (c.id.ensures, h) at c.to_bytes.ensures);
-      free = λ l. absurd (omega arith);
+      held = λ l. (refl, rw (c.id.ensures, at.1) at c.to_bytes.ensures);
+      free = λ l. absurd (omega (arith, at.0, at.1));
     }

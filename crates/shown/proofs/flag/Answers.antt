@@ -1,12 +1,13 @@
 -- `flag` meets its contract.
-use mathlib.Core.Path.{sym, ap}
+use Rattle.std.proofs.Common.{Bool, true, false, ◌≡◌, refl, ◌∙◌}
+use mir.Val.{bool_byte}
 use Rattle.shown.specs.Shown.{bit}
 use Rattle.shown.proofs.flag.Goals as goal
 
-pub returns-then-b : goal.returns-then-b
+byte_bit : (b : Bool) → bool_byte b ≡ bit b
 unfolding bit
-returns-then-b c = ap bit (sym c.if-b.true)
+byte_bit true = refl
+byte_bit false = refl
 
-pub returns-else-b : goal.returns-else-b
-unfolding bit
-returns-else-b c = ap bit (sym c.if-b.false)
+pub returns : goal.returns
+returns c = c.from.ensures ∙ byte_bit c.args.b

@@ -1,16 +1,10 @@
 -- `list` meets its contract: the two numbers are left, or stay as they were.
-use Rattle.shown.proofs.Laws.{left_by}
+use Rattle.std.proofs.Common.{Ok, Err, refl}
+use Rattle.errno.specs.Errno.{number_of}
 use Rattle.shown.proofs.list.Goals as goal
 
-pub returns : goal.returns
-returns c =
-    let first = c in
-    let n = first in
-    let l = n in
-    record {
-      listed = l.list-r.result;
-      kept = l.list-r.ensures;
-      answer = n.answer_number-e.ensures;
-      accepted = λ e. ((left_by first.leave.ensures).0 e, (left_by c.leave-2.ensures).0 e);
-      refused = λ e. ((left_by first.leave.ensures).1 e, (left_by c.leave-2.ensures).1 e);
-    }
+pub returns-in-Ok : goal.returns-in-Ok
+returns-in-Ok c = record { listed = Ok c.in-Ok.filled; kept = c.in-Ok.ensures; answer = refl; accepted = (refl, refl); refused = λ e. absurd (e refl) }
+
+pub returns-in-Err : goal.returns-in-Err
+returns-in-Err c = record { listed = Err c.in-Err.e; kept = c.in-Err.ensures; answer = c.number.ensures; accepted = tt; refused = λ e. (refl, refl) }
