@@ -10,13 +10,14 @@ use lib.Dec.{leb}
 use lib.ListN.{length, get_or, set, take, drop, length-set, length-drop, take-append-drop}
 use lib.Seq.{append_snoc, length-take-le, take_all, take-suc-set, drop-set-lt, drop-drop}
 use borrow.Author.Tests.{leb-true, le-leb}
+use Rattle.std.specs.Prelude.{Some, None}
 use Rattle.errno.specs.Outcome.{granted, refused}
 use Rattle.errno.specs.declared.Errno.TheVariants.{Einval}
 use Rattle.rules.specs.State.{Limits, State, fresh}
 use Rattle.rules.specs.Commands.{Answer, answered, errno_of}
 use Rattle.layout.specs.Carried.{Memory, read, memory_after, Carried}
 use Rattle.setup.specs.Fresh.{start, fresh_memory}
-use Rattle.model.specs.Steps.{Step, after_all}
+use Rattle.model.specs.Steps.{Step, Command, after_all}
 use Rattle.model.specs.Steps as Steps
 use Rattle.calls.specs.Calls.{Call, Chain, begins, goes_on}
 use Rattle.calls.proofs.Chains.{called, reached, demanded}
@@ -35,12 +36,12 @@ pub payload : (k : ℕ) (b : List ℕ) → take (length b - k) (drop k b) ≡ dr
 payload k b = take_all (length b - k) (drop k b) (omega (arith, length-drop k b))
 
 -- the command of the parts that were read
-pub of_parts : (b : List ℕ) {k : Kind} {i : Id} {m n : Memory} (a : Answer) {r : ℕ} → get_or b 0 0 ≤ 8 → k ≡ kind_of (get_or b 1 0)
-    → i ≡ id_of (take (length b - 2) (drop 2 b)) → r ≡ answered a
-    → Stepped (command (command_of (get_or b 0 0) k i (take (length b - 20) (drop 20 b)))) m n (answered a) → Stepped (request_of b) m n r
-of_parts b {k} {i} {m} {n} a {r} h ek ei er s =
+pub of_parts : (b : List ℕ) {k : Kind} {i : Id} {c : Command} {m n : Memory} (a : Answer) {r : ℕ} → get_or b 0 0 ≤ 8 → k ≡ kind_of (get_or b 1 0)
+    → i ≡ id_of (take (length b - 2) (drop 2 b)) → c ≡ command_of (get_or b 0 0) k i (take (length b - 20) (drop 20 b)) → r ≡ answered a
+    → Stepped (command c) m n (answered a) → Stepped (request_of b) m n r
+of_parts b {k} {i} {c} {m} {n} a {r} h ek ei ec er s =
     let id : i ≡ id_of (drop 2 b) = ei ∙ ap id_of (payload 2 b) in
-    let parts : command_of (get_or b 0 0) k i (take (length b - 20) (drop 20 b)) ≡ command_of (get_or b 0 0) (kind_of (get_or b 1 0)) (id_of (drop 2 b)) (drop 20 b) = λ j. command_of (get_or b 0 0) (ek j) (id j) (payload 20 b j) in
+    let parts : c ≡ command_of (get_or b 0 0) (kind_of (get_or b 1 0)) (id_of (drop 2 b)) (drop 20 b) = ec ∙ (λ j. command_of (get_or b 0 0) (ek j) (id j) (payload 20 b j)) in
     subst (Stepped (request_of b) m n) (sym er) (as_asked (is_command b h ∙ ap command (sym parts)) s)
 
 -- the sweep of the budget that was read
@@ -85,26 +86,27 @@ part_long {bytes} {at} {size} f =
     let size_is : at + size - at ≡ size = omega arith in
     length-take-le (at + size - at) (drop at bytes) (omega (arith, f.within, length-drop at bytes)) ∙ size_is
 
-module _ (bytes : List ℕ) (at size : ℕ) (is : size ≡ cond (whole (drop at bytes)) (size_of (drop at bytes)) 0) where
-  pub step_left : at ≤ length bytes → (size ≡ 0 → ⊥) → Left bytes at size
-  step_left l h = go (whole (drop at bytes)) refl is
-    where
-      go : (t : Bool) → whole (drop at bytes) ≡ t → size ≡ cond t (size_of (drop at bytes)) 0 → Left bytes at size
-      go true e f =
-          record {
-            found = e;
-            sized = f;
-            least = omega (arith, size_least (drop at bytes));
-            within = omega (arith, whole_fits (drop at bytes) e, length-drop at bytes);
-          }
-      go false e f = absurd (h f)
+pub step_left : (bytes : List ℕ) (at size : ℕ) → Some size ≡ cond (whole (drop at bytes)) (Some (size_of (drop at bytes))) None → at ≤ length bytes
+    → Left bytes at size
+step_left bytes at size is l = go (whole (drop at bytes)) refl is
+  where
+    go : (t : Bool) → whole (drop at bytes) ≡ t → Some size ≡ cond t (Some (size_of (drop at bytes))) None → Left bytes at size
+    go true e f =
+        let g : size ≡ size_of (drop at bytes) = cc in
+        record {
+          found = e;
+          sized = g;
+          least = omega (arith, size_least (drop at bytes));
+          within = omega (arith, whole_fits (drop at bytes) e, length-drop at bytes);
+        }
+    go false e f = cc
 
-  none_left : size ≡ 0 → whole (drop at bytes) ≡ false
-  none_left z = go (whole (drop at bytes)) refl is
-    where
-      go : (t : Bool) → whole (drop at bytes) ≡ t → size ≡ cond t (size_of (drop at bytes)) 0 → whole (drop at bytes) ≡ false
-      go true e f = absurd (omega (arith, size_least (drop at bytes)))
-      go false e f = e
+none_left : (bytes : List ℕ) (at : ℕ) → None ≡ cond (whole (drop at bytes)) (Some (size_of (drop at bytes))) None → whole (drop at bytes) ≡ false
+none_left bytes at is = go (whole (drop at bytes)) refl is
+  where
+    go : (t : Bool) → whole (drop at bytes) ≡ t → None ≡ cond t (Some (size_of (drop at bytes))) None → whole (drop at bytes) ≡ false
+    go true e f = cc
+    go false e f = e
 
 -- ---- a run: what the whole list comes to is what was done in n steps, and what the rest from the index on comes to
 
@@ -207,15 +209,15 @@ module _ {bytes old new : List ℕ} {k m : Memory} {at n : ℕ} (g : Going bytes
       }
 
   -- no whole step is left
-  pub ends_early : (size : ℕ) → size ≡ cond (whole (drop at bytes)) (size_of (drop at bytes)) 0 → size ≡ 0 → CarriedOut bytes old new k m n
-  ends_early size is z = ends (decode_none (length old - n) (drop at bytes) (none_left bytes at size is z))
+  pub ends_early : None ≡ cond (whole (drop at bytes)) (Some (size_of (drop at bytes))) None → CarriedOut bytes old new k m n
+  ends_early is = ends (decode_none (length old - n) (drop at bytes) (none_left bytes at is))
 
   -- no room is left
-  pub ends_full : length old ≤ n → CarriedOut bytes old new k m n
+  pub ends_full : {r : ℕ} → length old ≤ n → r ≡ n → CarriedOut bytes old new k m r
   unfolding decode
-  ends_full h =
+  ends_full h e =
       let none : length old - n ≡ 0 = omega arith in
-      ends (ap (λ (i : ℕ). decode i (drop at bytes)) none)
+      subst (CarriedOut bytes old new k m) (sym e) (ends (ap (λ (i : ℕ). decode i (drop at bytes)) none))
 
 -- ---- a run on a fresh record of limits that are bytes
 

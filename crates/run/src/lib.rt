@@ -36,17 +36,15 @@ pub fn carry_out(
         words.entry words.exit drivers.entry drivers.exit result }
 {
     let mut at = 0usize;
-    let mut n = 0usize;
-    while n < answers.len() {
-        let size = encoding::size_at(steps, at);
-        if size == 0 {
-            return n;
-        }
+    for n in 0..answers.len() {
+        let size = match encoding::size_at(steps, at) {
+            Some(size) => size,
+            None => return n,
+        };
         answers[n] = step(words, drivers, &steps[at..at + size]);
         at += size;
-        n += 1;
     }
-    n
+    answers.len()
 }
 
 // Carries out one request, and gives its answer as a byte.
@@ -71,5 +69,6 @@ fn obey(words: &mut Words, drivers: &mut Drivers, bytes: &[u8]) -> u8
 {
     let kind = fields::kind_of(bytes[1]);
     let id = fields::id_of(&bytes[2..]);
-    rules::answer_number(request::command(words, drivers, bytes[0], kind, id, &bytes[20..]))
+    let command = encoding::command_of(bytes[0], kind, id, &bytes[20..]);
+    rules::answer_number(request::command(words, drivers, command))
 }
