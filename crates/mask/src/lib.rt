@@ -14,6 +14,13 @@ pub struct Apid(pub u8);
 #[derive(Clone, Copy, PartialEq, Eq)]
 pub struct Apqi(pub u8);
 
+// A queue: an adapter and a domain.
+#[derive(Clone, Copy, PartialEq, Eq)]
+pub struct Apqn {
+    pub adapter: Apid,
+    pub domain: Apqi,
+}
+
 #[derive(Clone, Copy, PartialEq, Eq)]
 pub struct Mask {
     pub words: [u64; 4],
