@@ -13,7 +13,7 @@ ghost use Rattle.guest.specs.Masks.{Shows, usable_with};
 
 use errno::Errno;
 use layout::{Drivers, SLOTS, Words};
-use mask::{Apid, Apqi};
+use mask::{Apid, Apqi, Apqn};
 use product::Product;
 use rules::{Answer, Id, Masks, Matrix};
 
@@ -56,5 +56,5 @@ pub fn usable(words: &Words, drivers: &Drivers, id: Id, adapter: Apid, domain: A
     }
     let m = matrix::masks_at(words, drivers, slot, Matrix::Guest);
     let product = Product::of(m);
-    product.has(adapter, domain)
+    product.has(Apqn { adapter, domain })
 }
