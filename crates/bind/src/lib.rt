@@ -9,24 +9,22 @@ ghost use Rattle.rules.specs.State.{apqn};
 ghost use Rattle.bind.specs.Moves.{Moves};
 
 use layout::{Drivers, Words};
-use mask::{Apid, Apqi};
+use mask::Apqn;
 use rules::{Driver, Moved};
 
 // Moves one queue a step towards its target. It is never refused.
-pub fn move_queue(words: &Words, drivers: &mut Drivers, adapter: Apid, domain: Apqi) -> Moved
-    ensures { Moves (apqn adapter domain) words.entry drivers.entry drivers.exit result }
+pub fn move_queue(words: &Words, drivers: &mut Drivers, queue: Apqn) -> Moved
+    ensures { Moves (apqn queue.adapter queue.domain) words.entry drivers.entry drivers.exit result }
 {
     let m = moved_by(
-        drivers::driver(drivers, adapter, domain),
-        target::target(words, adapter, domain),
+        drivers::driver(drivers, queue),
+        target::target(words, queue),
     );
     match m {
         Moved::Idle => {}
-        Moved::Released => drivers::put_driver(drivers, adapter, domain, Driver::Unbound),
-        Moved::BoundHost => drivers::put_driver(drivers, adapter, domain, Driver::Host),
-        Moved::BoundPassthrough => {
-            drivers::put_driver(drivers, adapter, domain, Driver::Passthrough)
-        }
+        Moved::Released => drivers::put_driver(drivers, queue, Driver::Unbound),
+        Moved::BoundHost => drivers::put_driver(drivers, queue, Driver::Host),
+        Moved::BoundPassthrough => drivers::put_driver(drivers, queue, Driver::Passthrough),
     }
     m
 }

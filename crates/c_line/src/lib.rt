@@ -21,7 +21,7 @@ pub extern "C" fn zk_raw_line(
     ensures { LineServes line.entry words drivers out written result }
 {
     if out.len() < LONGEST {
-        return errno::number(Errno::Enospc);
+        return u8::from(Errno::Enospc);
     }
     let said = consoleline::obey(words, drivers, line);
     *written = answerline::put(out, 0, said);

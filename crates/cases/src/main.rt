@@ -154,7 +154,7 @@ fn queues(
 }
 
 fn moved(rt: &impl Print, m: Moved) -> io::Result<()> {
-    named(rt, rules::moved_number(m) as usize)
+    named(rt, usize::from(u8::from(m)))
 }
 
 fn target(rt: &impl Print, d: Driver) -> io::Result<()> {

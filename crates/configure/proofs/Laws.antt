@@ -26,17 +26,6 @@ use Rattle.unbind.specs.Gone.{gone}
 use Rattle.configure.specs.Configured.{configured as configuredBy}
 
 module _ (g : Configuration) (ws : List ℕ) where
-  -- the three tests of the limits a and d
-  pub by_limits : (a d : ℕ) → a ≡ (limits_in ws).adapter → d ≡ (limits_in ws).domain → (x y z : Bool) → x ≡ some_below 256 (both (bits g.adapters) (bits_above a))
-      → y ≡ some_below 256 (both (bits g.domains) (bits_above d)) → z ≡ some_below 256 (both (bits g.controls) (bits_above d))
-      → (x || y || z) ≡ beyond_limits (limits_in ws) g
-  unfolding beyond_limits
-  by_limits a d p q x y z u v w =
-      (λ i. u i || v i || w i)
-      ∙ ap₂ (λ (k l : ℕ). some_below 256 (both (bits g.adapters) (bits_above k)) || some_below 256 (both (bits g.domains) (bits_above l))
-      || some_below 256 (both (bits g.controls) (bits_above l)))
-      p q
-
   -- the queues that are configured no more, by those that were
   pub gone_away : (was : Product) → queues_of was ≡ configured (config_in ws)
       → gone was (record { adapters = g.adapters; domains = g.domains }) ≡ taken_away ws g

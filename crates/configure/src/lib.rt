@@ -22,17 +22,11 @@ pub fn configure(words: &mut Words, drivers: &mut Drivers, configuration: Config
     }
     layout::hold_words(words);
     layout::hold_drivers(drivers);
-    let was = products::configured(words);
-    let adapters = configuration.adapters;
-    let domains = configuration.domains;
-    unbind::unbind(
-        drivers,
-        was,
-        Product {
-            adapters: adapters,
-            domains: domains,
-        },
-    );
+    let is = Product {
+        adapters: configuration.adapters,
+        domains: configuration.domains,
+    };
+    unbind::unbind(drivers, products::configured(words), is);
     store::put_configuration(words, configuration);
     Ok(())
 }
@@ -41,15 +35,8 @@ pub fn configure(words: &mut Words, drivers: &mut Drivers, configuration: Config
 fn beyond(words: &Words, configuration: Configuration) -> bool
     ensures { result ≡ beyond_limits (limits words.entry) configuration }
 {
-    let adapters = configuration.adapters;
-    let domains = configuration.domains;
-    let controls = configuration.controls;
-    if limits::exceeds_adapter(adapters, record::max_adapter(words)) {
-        return true;
-    }
     let limit = record::max_domain(words);
-    if limits::exceeds_domain(domains, limit) {
-        return true;
-    }
-    limits::exceeds_domain(controls, limit)
+    limits::exceeds(configuration.adapters, record::max_adapter(words))
+        || limits::exceeds(configuration.domains, limit)
+        || limits::exceeds(configuration.controls, limit)
 }

@@ -30,7 +30,7 @@ pub fn control_domains(
     ensures { ControlsShown (devices words.entry) id text.entry text.exit written.entry written.exit result }
 {
     match lookup::find(words, id) {
-        None => errno::number(Errno::Enoent),
+        None => u8::from(Errno::Enoent),
         Some(slot) => {
             let controls = record::numbers(words, slot, Kind::Control);
             *written = write(controls, text);
@@ -48,7 +48,7 @@ fn write(controls: Mask, text: &mut [u8]) -> usize
     let mut at = 0usize;
     for coming in 0..256usize {
         let domain = coming as u8;
-        if controls.has_domain(Apqi(domain)) {
+        if controls.has(Apqi(domain)) {
             put_line(text, at, domain);
             at += LINE;
         }

@@ -11,21 +11,21 @@ ghost use Rattle.layout.specs.Lent.{host, config};
 ghost use Rattle.drivernumbers.specs.Numbers.{driver_number};
 
 use layout::{Drivers, Words};
-use mask::{Apid, Apqi};
+use mask::Apqn;
 use rules::Driver;
 
 // The driver that a queue has.
-pub fn driver(drivers: &Drivers, adapter: Apid, domain: Apqi) -> u8
-    ensures { result ≡ driver_number (driver_of (get_or drivers.now (apqn adapter domain) 0)) }
+pub fn driver(drivers: &Drivers, queue: Apqn) -> u8
+    ensures { result ≡ driver_number (driver_of (get_or drivers.now (apqn queue.adapter queue.domain) 0)) }
 {
-    number(drivers::driver(drivers, adapter, domain))
+    number(drivers::driver(drivers, queue))
 }
 
 // The driver that a queue should have.
-pub fn target(words: &Words, adapter: Apid, domain: Apqi) -> u8
-    ensures { result ≡ driver_number (target_of (host words.entry) (config words.entry) (apqn adapter domain)) }
+pub fn target(words: &Words, queue: Apqn) -> u8
+    ensures { result ≡ driver_number (target_of (host words.entry) (config words.entry) (apqn queue.adapter queue.domain)) }
 {
-    number(target::target(words, adapter, domain))
+    number(target::target(words, queue))
 }
 
 fn number(driver: Driver) -> u8

@@ -8,24 +8,24 @@ ghost use Rattle.rules.specs.State.{queues, apqn};
 ghost use Rattle.layout.specs.Layout.{driver_of, byte_of};
 
 use layout::Drivers;
-use mask::{Apid, Apqi};
+use mask::Apqn;
 use rules::{Driver, QUEUES};
 
 #[tactic(auto, unfolding(layout::specs::Layout::driver_of))]
-pub fn driver(drivers: &Drivers, adapter: Apid, domain: Apqi) -> Driver
-    ensures { result ≡ driver_of (get_or drivers.now (apqn adapter domain) 0) }
+pub fn driver(drivers: &Drivers, queue: Apqn) -> Driver
+    ensures { result ≡ driver_of (get_or drivers.now (apqn queue.adapter queue.domain) 0) }
 {
-    match drivers[index(adapter, domain)] {
+    match drivers[index(queue)] {
         1 => Driver::Host,
         2 => Driver::Passthrough,
         _ => Driver::Unbound,
     }
 }
 
-pub fn put_driver(drivers: &mut Drivers, adapter: Apid, domain: Apqi, driver: Driver)
-    ensures { drivers.new ≡ set drivers.old (apqn adapter domain) (byte_of driver) }
+pub fn put_driver(drivers: &mut Drivers, queue: Apqn, driver: Driver)
+    ensures { drivers.new ≡ set drivers.old (apqn queue.adapter queue.domain) (byte_of driver) }
 {
-    drivers[index(adapter, domain)] = byte(driver);
+    drivers[index(queue)] = byte(driver);
 }
 
 // Unbinds every queue.
@@ -36,10 +36,10 @@ pub fn put_unbound(drivers: &mut Drivers)
 }
 
 // Where a queue's byte lies.
-fn index(adapter: Apid, domain: Apqi) -> usize
-    ensures { result ≡ apqn adapter domain }
+fn index(queue: Apqn) -> usize
+    ensures { result ≡ apqn queue.adapter queue.domain }
 {
-    usize::from(adapter.0) * 256 + usize::from(domain.0)
+    usize::from(queue.adapter.0) * 256 + usize::from(queue.domain.0)
 }
 
 #[tactic(auto, unfolding(layout::specs::Layout::byte_of))]

@@ -9,7 +9,7 @@ ghost use Rattle.layout.specs.Lent.{state};
 ghost use Rattle.due.specs.Due.{Remains};
 
 use layout::{Drivers, Words};
-use mask::{Apid, Apqi};
+use mask::{Apid, Apqi, Apqn};
 use rules::Driver;
 use targetrow::TargetRow;
 
@@ -44,11 +44,11 @@ fn remaining_row(words: &Words, drivers: &Drivers, adapter: Apid) -> u32
     let row = TargetRow::of(words, adapter);
     let mut sum = 0;
     for n in 0..=255u8 {
-        let domain = Apqi(n);
-        sum += due_by(
-            drivers::driver(drivers, adapter, domain),
-            row.target(domain),
-        );
+        let queue = Apqn {
+            adapter,
+            domain: Apqi(n),
+        };
+        sum += due_by(drivers::driver(drivers, queue), row.target(queue.domain));
     }
     sum
 }

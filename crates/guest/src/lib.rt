@@ -11,7 +11,7 @@ ghost use Rattle.guest.specs.Masks.{Shows, usable_with};
 
 use errno::Errno;
 use layout::{Drivers, Words};
-use mask::{Apid, Apqi};
+use mask::Apqn;
 use product::Product;
 use rules::{Id, Masks, Matrix};
 
@@ -24,23 +24,21 @@ pub fn masks(words: &Words, drivers: &Drivers, id: Id, matrix: Matrix) -> Result
 }
 
 // Whether a guest can use a queue: the device with the id is open, and the queue is in its guest masks.
-pub fn usable(words: &Words, drivers: &Drivers, id: Id, adapter: Apid, domain: Apqi) -> bool
-    ensures { result ≡ usable_with id (state words.entry drivers.entry) (apqn adapter domain) }
+pub fn usable(words: &Words, drivers: &Drivers, id: Id, queue: Apqn) -> bool
+    ensures { result ≡ usable_with id (state words.entry drivers.entry) (apqn queue.adapter queue.domain) }
 {
     match lookup::find(words, id) {
         None => false,
-        Some(slot) => usable_at(words, drivers, slot, adapter, domain),
+        Some(slot) => usable_at(words, drivers, slot, queue),
     }
 }
 
 // The same for the guest of the device at a slot.
-fn usable_at(words: &Words, drivers: &Drivers, slot: usize, adapter: Apid, domain: Apqi) -> bool
-    ensures { result ≡ usable (state words.entry drivers.entry) (devices words.entry slot) (apqn adapter domain) }
+fn usable_at(words: &Words, drivers: &Drivers, slot: usize, queue: Apqn) -> bool
+    ensures { result ≡ usable (state words.entry drivers.entry) (devices words.entry slot) (apqn queue.adapter queue.domain) }
 {
     if !record::is_open(words, slot) {
         return false;
     }
-    let m = matrix::masks_at(words, drivers, slot, Matrix::Guest);
-    let product = Product::of(m);
-    product.has(adapter, domain)
+    Product::from(matrix::masks_at(words, drivers, slot, Matrix::Guest)).has(queue)
 }

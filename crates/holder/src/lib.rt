@@ -10,7 +10,7 @@ ghost use Rattle.layout.specs.Lent.{devices};
 ghost use Rattle.holder.specs.Holder.{holder_of};
 
 use layout::{SLOTS, Words};
-use mask::{Apid, Apqi};
+use mask::{Apid, Apqi, Apqn};
 
 // The slot of the device that has a queue, open or not.
 pub fn holder(words: &Words, adapter: Apid, domain: Apqi) -> Option<usize>
@@ -29,5 +29,5 @@ fn holds(words: &Words, slot: usize, adapter: Apid, domain: Apqi) -> bool
     ensures { result ≡ product (devices words.entry slot) (apqn adapter domain) }
 {
     let assigned = products::assigned(words, slot);
-    assigned.has(adapter, domain)
+    assigned.has(Apqn { adapter, domain })
 }

@@ -6,26 +6,13 @@
 ghost use Rattle.std.specs.Prelude.{◌-◌, ◌^◌, cond, ◌≡◌, ltb, eqb};
 ghost use Rattle.mask.specs.Bits.{bits, bits_above, both, some_below};
 
-use mask::{Apid, Apqi, Mask};
+use mask::{BitNumber, Mask};
 
-// Whether a mask of adapters has one above the limit; then the same of domains.
-pub fn exceeds_adapter(mask: Mask, limit: Apid) -> bool
-    ensures { result ≡ some_below 256 (both (bits mask) (bits_above limit.0)) }
+// Whether a number above a limit is in a mask.
+pub fn exceeds<N: BitNumber>(mask: Mask, limit: N) -> bool
+    ensures { result ≡ some_below 256 (both (bits mask) (bits_above (N.bit limit))) }
 {
-    exceeds(mask, limit.0)
-}
-
-pub fn exceeds_domain(mask: Mask, limit: Apqi) -> bool
-    ensures { result ≡ some_below 256 (both (bits mask) (bits_above limit.0)) }
-{
-    exceeds(mask, limit.0)
-}
-
-// Whether a bit above the limit is set.
-fn exceeds(mask: Mask, limit: u8) -> bool
-    ensures { result ≡ some_below 256 (both (bits mask) (bits_above limit)) }
-{
-    masks::meets(mask, beyond(limit))
+    masks::meets(mask, beyond(limit.bit()))
 }
 
 // The bits above a limit.

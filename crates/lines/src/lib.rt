@@ -9,7 +9,7 @@ ghost use Rattle.product.specs.Meet.{queues_of};
 ghost use Rattle.lines.specs.Lines.{line_size, line_of, with_line};
 ghost use Rattle.lines.specs.Written.{Written};
 
-use mask::{Apid, Apqi};
+use mask::{Apid, Apqi, Apqn};
 use product::Product;
 use rules::QUEUES;
 
@@ -55,7 +55,10 @@ fn has(product: Product, queue: usize) -> bool
     requires { queue < queues }
     ensures { result ≡ queues_of product queue }
 {
-    product.has(Apid((queue / 256) as u8), Apqi((queue % 256) as u8))
+    product.has(Apqn {
+        adapter: Apid((queue / 256) as u8),
+        domain: Apqi((queue % 256) as u8),
+    })
 }
 
 // Writes the line of a queue at an index of the buffer.

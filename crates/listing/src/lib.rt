@@ -32,7 +32,7 @@ pub fn list(
         return Err(Errno::Enospc);
     }
     let m = matrix::masks_at(words, drivers, slot, matrix);
-    Ok(lines::write(Product::of(m), place, buf))
+    Ok(lines::write(Product::from(m), place, buf))
 }
 
 // How many lines a whole matrix has.

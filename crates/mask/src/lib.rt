@@ -14,6 +14,45 @@ pub struct Apid(pub u8);
 #[derive(Clone, Copy, PartialEq, Eq)]
 pub struct Apqi(pub u8);
 
+// A queue: an adapter and a domain.
+#[derive(Clone, Copy, PartialEq, Eq)]
+pub struct Apqn {
+    pub adapter: Apid,
+    pub domain: Apqi,
+}
+
+// A kind of number that names the bits of masks.
+pub trait BitNumber {
+    ghost bit: { Self → ℕ };
+
+    fn bit(self) -> u8
+        ensures { result ≡ bit self };
+}
+
+impl BitNumber for u8 {
+    ghost bit = { λ n. n };
+
+    fn bit(self) -> u8 {
+        self
+    }
+}
+
+impl BitNumber for Apid {
+    ghost bit = { λ n. n.0 };
+
+    fn bit(self) -> u8 {
+        self.0
+    }
+}
+
+impl BitNumber for Apqi {
+    ghost bit = { λ n. n.0 };
+
+    fn bit(self) -> u8 {
+        self.0
+    }
+}
+
 #[derive(Clone, Copy, PartialEq, Eq)]
 pub struct Mask {
     pub words: [u64; 4],
@@ -34,24 +73,12 @@ impl Mask {
         }
     }
 
-    pub fn has(self, i: u8) -> bool
-        ensures { result ≡ bits self i }
+    // Whether a number is in it.
+    pub fn has<N: BitNumber>(self, number: N) -> bool
+        ensures { result ≡ bits self (N.bit number) }
     {
+        let i = number.bit();
         (self.words[(i / 64) as usize] >> (63 - i % 64)) % 2 == 1
-    }
-
-    // Whether a mask of adapters has an adapter.
-    pub fn has_adapter(self, adapter: Apid) -> bool
-        ensures { result ≡ bits self adapter.0 }
-    {
-        self.has(adapter.0)
-    }
-
-    // Whether a mask of domains has a domain.
-    pub fn has_domain(self, domain: Apqi) -> bool
-        ensures { result ≡ bits self domain.0 }
-    {
-        self.has(domain.0)
     }
 
     pub fn with(mut self, i: u8) -> Mask

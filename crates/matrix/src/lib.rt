@@ -10,7 +10,7 @@ ghost use Rattle.matrix.specs.Row.{missing, held_back, held_at};
 ghost use Rattle.matrix.specs.HasMasks.{HasMasks};
 
 use layout::{Drivers, Words};
-use mask::{Apid, Apqi, Mask};
+use mask::{Apid, Apqi, Apqn, Mask};
 use rules::{Driver, Kind, Masks, Matrix};
 
 // A matrix of the device at a slot: nothing past the last slot.
@@ -52,7 +52,7 @@ fn passed_adapters(drivers: &Drivers, adapters: Mask, domains: Mask) -> Mask
 fn kept_adapter(drivers: &Drivers, adapter: Apid, mask: Mask, domains: Mask) -> Mask
     ensures { bits result ≡ (λ j. bits mask j && not (held_at adapter.0 drivers.now (bits domains) j)) }
 {
-    if mask.has_adapter(adapter) && !row_passed(drivers, adapter, domains) {
+    if mask.has(adapter) && !row_passed(drivers, adapter, domains) {
         mask.without(adapter.0)
     } else {
         mask
@@ -63,8 +63,12 @@ fn kept_adapter(drivers: &Drivers, adapter: Apid, mask: Mask, domains: Mask) -> 
 fn row_passed(drivers: &Drivers, adapter: Apid, domains: Mask) -> bool
     ensures { result ≡ not (held_back drivers.now (bits domains) adapter.0) }
 {
-    for domain in 0..=255u8 {
-        if missing(drivers, adapter, domains, Apqi(domain)) {
+    for n in 0..=255u8 {
+        let queue = Apqn {
+            adapter,
+            domain: Apqi(n),
+        };
+        if missing(drivers, domains, queue) {
             return false;
         }
     }
@@ -72,8 +76,8 @@ fn row_passed(drivers: &Drivers, adapter: Apid, domains: Mask) -> bool
 }
 
 // Whether a domain is there, and its queue is not bound to passthrough.
-fn missing(drivers: &Drivers, adapter: Apid, domains: Mask, domain: Apqi) -> bool
-    ensures { result ≡ missing drivers.now (bits domains) adapter.0 domain.0 }
+fn missing(drivers: &Drivers, domains: Mask, queue: Apqn) -> bool
+    ensures { result ≡ missing drivers.now (bits domains) queue.adapter.0 queue.domain.0 }
 {
-    domains.has_domain(domain) && drivers::driver(drivers, adapter, domain) != Driver::Passthrough
+    domains.has(queue.domain) && drivers::driver(drivers, queue) != Driver::Passthrough
 }

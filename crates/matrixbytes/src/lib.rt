@@ -32,7 +32,7 @@ pub fn masks(
             put_masks(m, out);
             0
         }
-        Err(e) => errno::number(e),
+        Err(e) => u8::from(e),
     }
 }
 

@@ -85,7 +85,7 @@ pub fn name(rt: &impl Print, e: Errno) -> io::Result<u8>
     ensures { IfOk result (λ r. r ≡ number_of e) }
 {
     text(rt, errno::name(e))?;
-    Ok(errno::number(e))
+    Ok(u8::from(e))
 }
 
 // The three masks of a matrix, a line for each. Answers how many bits are set in all.

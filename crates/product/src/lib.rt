@@ -8,7 +8,7 @@ ghost use Rattle.mask.specs.Bits.{bits, no_bits};
 ghost use Rattle.rules.specs.State.{apqn};
 ghost use Rattle.product.specs.Meet.{queues_of, ProductOf, Meet, Row};
 
-use mask::{Apid, Apqi, Mask};
+use mask::{Apid, Apqn, Mask};
 use rules::Masks;
 
 #[derive(Clone, Copy)]
@@ -29,10 +29,10 @@ impl Product {
     }
 
     // Whether a queue is in it.
-    pub fn has(self, adapter: Apid, domain: Apqi) -> bool
-        ensures { result ≡ queues_of self (apqn adapter domain) }
+    pub fn has(self, queue: Apqn) -> bool
+        ensures { result ≡ queues_of self (apqn queue.adapter queue.domain) }
     {
-        self.adapters.has_adapter(adapter) && self.domains.has_domain(domain)
+        self.adapters.has(queue.adapter) && self.domains.has(queue.domain)
     }
 
     // Whether some queue is in both. No queue is looked at: it is so exactly when the adapters meet and the domains meet.
@@ -46,7 +46,7 @@ impl Product {
     pub fn row(self, adapter: Apid) -> Mask
         ensures { Row (queues_of self) adapter.0 (bits result) }
     {
-        if self.adapters.has_adapter(adapter) {
+        if self.adapters.has(adapter) {
             self.domains
         } else {
             Mask::empty()

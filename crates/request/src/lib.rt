@@ -37,7 +37,7 @@ pub fn make_move(words: &Words, drivers: &mut Drivers, adapter: Apid, domain: Ap
     ensures { Stepped (move adapter.0 domain.0) (memory words.now drivers.old)
         (memory words.now drivers.new) result }
 {
-    rules::moved_number(bind::move_queue(words, drivers, adapter, domain))
+    u8::from(bind::move_queue(words, drivers, adapter, domain))
 }
 
 // Makes a sweep, and tells by a byte whether moves remain.

@@ -17,7 +17,7 @@ pub fn device(words: &Words, slot: usize, id: &mut [u8; ID_BYTES], mark: &mut u8
     ensures { DeviceShown (devices words.entry slot) id.entry id.exit mark.entry mark.exit result }
 {
     if !record::present(words, slot) {
-        return errno::number(Errno::Enoent);
+        return u8::from(Errno::Enoent);
     }
     *id = idbytes::to_bytes(record::id(words, slot));
     *mark = shown::flag(record::is_open(words, slot));
@@ -29,7 +29,7 @@ pub fn holder(words: &Words, adapter: Apid, domain: Apqi, id: &mut [u8; ID_BYTES
     ensures { HolderShown (devices words.entry) (apqn adapter domain) id.entry id.exit result }
 {
     match holder::holder(words, adapter, domain) {
-        None => errno::number(Errno::Enoent),
+        None => u8::from(Errno::Enoent),
         Some(slot) => {
             *id = idbytes::to_bytes(record::id(words, slot));
             0

@@ -42,7 +42,7 @@ pub fn list(
             *next = filled.next;
             0
         }
-        Err(e) => errno::number(e),
+        Err(e) => u8::from(e),
     }
 }
 

@@ -95,7 +95,7 @@ fn put_types(words: &mut Words, adapters: Mask, types: [u8; 256])
     ensures { words.new ≡ put_types words.old (λ a. cond (bits adapters a) (get_or types a 0) 0) 256 }
 {
     for (a, t) in types.iter().enumerate() {
-        words[TYPES + a] = type_of(adapters.has_adapter(Apid(a as u8)), *t);
+        words[TYPES + a] = type_of(adapters.has(Apid(a as u8)), *t);
     }
 }
 

@@ -8,7 +8,7 @@ ghost use Rattle.rules.specs.State.{apqn, queues};
 ghost use Rattle.sweep.specs.Sweeps.{moves_bytes, finished_bytes, PartSweeps, Sweeps};
 
 use layout::{Drivers, Words};
-use mask::{Apid, Apqi};
+use mask::{Apid, Apqi, Apqn};
 use rules::Driver;
 use targetrow::TargetRow;
 
@@ -57,14 +57,17 @@ fn sweep_row(words: &Words, drivers: &mut Drivers, adapter: Apid, moves: u32) ->
     let row = TargetRow::of(words, adapter);
     let mut left = moves;
     for n in 0..=255u8 {
-        let domain = Apqi(n);
-        let target = row.target(domain);
-        let due = due::due_by(drivers::driver(drivers, adapter, domain), target);
+        let queue = Apqn {
+            adapter,
+            domain: Apqi(n),
+        };
+        let target = row.target(queue.domain);
+        let due = due::due_by(drivers::driver(drivers, queue), target);
         if left < due {
-            settle(words, drivers, adapter, domain, left);
+            settle(words, drivers, queue, left);
             return None;
         }
-        finish(drivers, adapter, domain, due, target);
+        finish(drivers, queue, due, target);
         left -= due;
     }
     Some(left)
@@ -72,19 +75,19 @@ fn sweep_row(words: &Words, drivers: &mut Drivers, adapter: Apid, moves: u32) ->
 
 // Makes some moves of a queue.
 #[tactic(auto, using(crate::proofs::Laws::no_moves, crate::proofs::Laws::moves_more))]
-fn settle(words: &Words, drivers: &mut Drivers, adapter: Apid, domain: Apqi, moves: u32)
-    ensures { drivers.new ≡ moves_bytes words.now moves (apqn adapter domain) drivers.old }
+fn settle(words: &Words, drivers: &mut Drivers, queue: Apqn, moves: u32)
+    ensures { drivers.new ≡ moves_bytes words.now moves (apqn queue.adapter queue.domain) drivers.old }
 {
     for _ in 0..moves {
-        bind::move_queue(words, drivers, adapter, domain);
+        bind::move_queue(words, drivers, queue);
     }
 }
 
 // Makes all moves that are due of a queue: the driver after the last is the target.
-fn finish(drivers: &mut Drivers, adapter: Apid, domain: Apqi, due: u32, target: Driver)
-    ensures { drivers.new ≡ finished_bytes due target (apqn adapter domain) drivers.old }
+fn finish(drivers: &mut Drivers, queue: Apqn, due: u32, target: Driver)
+    ensures { drivers.new ≡ finished_bytes due target (apqn queue.adapter queue.domain) drivers.old }
 {
     if due != 0 {
-        drivers::put_driver(drivers, adapter, domain, target);
+        drivers::put_driver(drivers, queue, target);
     }
 }

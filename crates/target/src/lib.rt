@@ -9,20 +9,20 @@ ghost use Rattle.rules.specs.State.{apqn};
 ghost use Rattle.layout.specs.Lent.{host, config};
 
 use layout::Words;
-use mask::{Apid, Apqi};
+use mask::Apqn;
 use rules::Driver;
 
 // The driver that a queue should have.
-pub fn target(words: &Words, adapter: Apid, domain: Apqi) -> Driver
-    ensures { result ≡ target_of (host words.entry) (config words.entry) (apqn adapter domain) }
+pub fn target(words: &Words, queue: Apqn) -> Driver
+    ensures { result ≡ target_of (host words.entry) (config words.entry) (apqn queue.adapter queue.domain) }
 {
     let configured = products::configured(words);
     let reserved = products::reserved(words);
-    if !configured.has(adapter, domain) {
+    if !configured.has(queue) {
         Driver::Unbound
-    } else if reserved.has(adapter, domain) {
+    } else if reserved.has(queue) {
         Driver::Host
-    } else if record::hardware_type(words, adapter) < 10 {
+    } else if record::hardware_type(words, queue.adapter) < 10 {
         Driver::Unbound
     } else {
         Driver::Passthrough

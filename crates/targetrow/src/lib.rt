@@ -38,9 +38,9 @@ impl TargetRow {
     pub fn target(self, domain: Apqi) -> Driver
         ensures { result ≡ row_target self domain.0 }
     {
-        if self.host.has_domain(domain) {
+        if self.host.has(domain) {
             Driver::Host
-        } else if self.passthrough.has_domain(domain) {
+        } else if self.passthrough.has(domain) {
             Driver::Passthrough
         } else {
             Driver::Unbound

@@ -9,7 +9,7 @@ ghost use Rattle.layout.specs.Layout.{unbind_one, unbind};
 ghost use Rattle.unbind.specs.Gone.{gone, with_domain, unbind_row};
 
 use layout::Drivers;
-use mask::{Apid, Apqi, Mask};
+use mask::{Apid, Apqi, Apqn, Mask};
 use product::Product;
 use rules::Driver;
 
@@ -36,17 +36,21 @@ fn unbind_row(drivers: &mut Drivers, was: Product, is: Product, adapter: Apid)
 fn unbind_domains(drivers: &mut Drivers, adapter: Apid, domains: Mask)
     ensures { drivers.new ≡ unbind_row drivers.old (with_domain domains) adapter.0 256 }
 {
-    for domain in 0..=255u8 {
-        unbind_one(drivers, adapter, domains, Apqi(domain));
+    for n in 0..=255u8 {
+        let queue = Apqn {
+            adapter,
+            domain: Apqi(n),
+        };
+        unbind_one(drivers, domains, queue);
     }
 }
 
 // Unbinds one queue, if its domain is among them.
 #[tactic(auto, unfolding(layout::specs::Layout::byte_of))]
-fn unbind_one(drivers: &mut Drivers, adapter: Apid, domains: Mask, domain: Apqi)
-    ensures { drivers.new ≡ unbind_one drivers.old (with_domain domains) (apqn adapter domain) }
+fn unbind_one(drivers: &mut Drivers, domains: Mask, queue: Apqn)
+    ensures { drivers.new ≡ unbind_one drivers.old (with_domain domains) (apqn queue.adapter queue.domain) }
 {
-    if domains.has_domain(domain) {
-        drivers::put_driver(drivers, adapter, domain, Driver::Unbound);
+    if domains.has(queue.domain) {
+        drivers::put_driver(drivers, queue, Driver::Unbound);
     }
 }

@@ -14,11 +14,11 @@ use Rattle.bind.proofs.move_queue.Goals.{After-moved_by-m}
 -- a move that leaves the bytes of its answer
 done : (c : After-moved_by-m) (rs : List ℕ) (m : Moved) → c.moved_by-m.result ≡ m →
     let a = c.args in
-    rs ≡ bytes_after m (apqn a.adapter a.domain) a.drivers.now
-    → Moving (apqn a.adapter a.domain) a.words.now a.drivers.now rs c.moved_by-m.result
+    rs ≡ bytes_after m (apqn a.queue.adapter a.queue.domain) a.drivers.now
+    → Moving (apqn a.queue.adapter a.queue.domain) a.words.now a.drivers.now rs c.moved_by-m.result
 done c rs m e b =
     let a = c.args in
-    let q = apqn a.adapter a.domain in
+    let q = apqn a.queue.adapter a.queue.domain in
     moving a.words.now a.drivers.now rs q c.moved_by-m.result
     (omega arith)
     (c.moved_by-m.ensures ∙ ap₂ moved c.driver.ensures c.target.ensures ∙ answer_read a.words.now a.drivers.now q)

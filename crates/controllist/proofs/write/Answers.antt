@@ -2,7 +2,7 @@
 use Rattle.std.proofs.Common.{sym, ◌∙◌, arith}
 use Rattle.controllist.proofs.Laws.{sofar_start, sofar_skip, sofar_line, sofar_end}
 use Rattle.controllist.proofs.write.Goals as goal
-use Rattle.controllist.proofs.write.Goals.{then-has_domain, else-has_domain}
+use Rattle.controllist.proofs.write.Goals.{then-has, else-has}
 
 pub loop-coming-init : goal.loop-coming-init
 loop-coming-init c = sofar_start _ _ (omega arith)
@@ -10,12 +10,12 @@ loop-coming-init c = sofar_start _ _ (omega arith)
 pub loop-coming-preserved : goal.loop-coming-preserved
 loop-coming-preserved c =
     let l = c.loop-coming in
-    elim c.if-has_domain.branch [
-      | then-has_domain w ↦
+    elim c.if-has.branch [
+      | then-has w ↦
           rw (w.text-is, w.at-is)
-          (sofar_line l.invariant (omega arith) (sym c.has_domain.ensures ∙ w.if-has_domain.true) w.put_line.ensures)
-      | else-has_domain w ↦
-          rw (w.text-is, w.at-is) (sofar_skip l.invariant (omega arith) (sym c.has_domain.ensures ∙ w.if-has_domain.false))
+          (sofar_line l.invariant (omega arith) (sym c.has.ensures ∙ w.if-has.true) w.put_line.ensures)
+      | else-has w ↦
+          rw (w.text-is, w.at-is) (sofar_skip l.invariant (omega arith) (sym c.has.ensures ∙ w.if-has.false))
     ]
 
 pub returns : goal.returns

@@ -17,14 +17,14 @@ passed_same Unbound = refl
 passed_same Host = refl
 passed_same Passthrough = refl
 
-pub returns-then-has_domain : goal.returns-then-has_domain
-returns-then-has_domain c =
+pub returns-then-has : goal.returns-then-has
+returns-then-has c =
     let a = c.args in
     c.ne.ensures ∙ passed_same c.driver.result
-    ∙ sym (missing_at a.drivers.now (bits a.domains) a.adapter.0 a.domain.0 true _ (sym c.has_domain.ensures ∙ c.if-has_domain.true) (sym (ap passed c.driver.ensures)))
+    ∙ sym (missing_at a.drivers.now (bits a.domains) a.queue.adapter.0 a.queue.domain.0 true _ (sym c.has.ensures ∙ c.if-has.true) (sym (ap passed c.driver.ensures)))
 
-pub returns-else-has_domain : goal.returns-else-has_domain
-returns-else-has_domain c =
+pub returns-else-has : goal.returns-else-has
+returns-else-has c =
     let a = c.args in
-    c.if-has_domain.false
-    ∙ sym (missing_at a.drivers.now (bits a.domains) a.adapter.0 a.domain.0 false _ (sym c.has_domain.ensures ∙ c.if-has_domain.false) refl)
+    c.if-has.false
+    ∙ sym (missing_at a.drivers.now (bits a.domains) a.queue.adapter.0 a.queue.domain.0 false _ (sym c.has.ensures ∙ c.if-has.false) refl)

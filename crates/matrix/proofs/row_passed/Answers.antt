@@ -13,7 +13,7 @@ pub returns-then-missing : goal.returns-then-missing
 unfolding held_back
 returns-then-missing c =
     let a = c.args in
-    ap not (sym (some_intro 256 (missing a.drivers.now (bits a.domains) a.adapter.0) c.loop-domain.domain (omega arith)
+    ap not (sym (some_intro 256 (missing a.drivers.now (bits a.domains) a.adapter.0) c.loop-n.n (omega arith)
     (sym c.missing.ensures ∙ c.if-missing.true)))
 
 pub returns-else-missing : goal.returns-else-missing
@@ -21,5 +21,5 @@ unfolding held_back
 returns-else-missing c =
     let a = c.args in
     let wanted = missing a.drivers.now (bits a.domains) a.adapter.0 in
-    let all : (k : ℕ) → k < c.loop-domain.domain + 1 → wanted k ≡ false = below_more _ _ c.loop-domain.invariant (sym c.missing.ensures ∙ c.if-missing.false) in
+    let all : (k : ℕ) → k < c.loop-n.n + 1 → wanted k ≡ false = below_more _ _ c.loop-n.invariant (sym c.missing.ensures ∙ c.if-missing.false) in
     ap not (sym (none_some 256 wanted (λ k h. all k (omega arith))))

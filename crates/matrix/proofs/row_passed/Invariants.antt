@@ -4,5 +4,5 @@ use Rattle.mask.specs.Bits.{bits}
 use Rattle.matrix.specs.Row.{missing}
 use Rattle.matrix.proofs.row_passed.Given as goal
 
-abbrev pub invariant-loop-domain : goal.invariant-loop-domain
-invariant-loop-domain l = (k : ℕ) → k < l.domain → missing l.drivers (bits l.domains) l.adapter.0 k ≡ false
+abbrev pub invariant-loop-n : goal.invariant-loop-n
+invariant-loop-n l = (k : ℕ) → k < l.n → missing l.drivers (bits l.domains) l.adapter.0 k ≡ false

@@ -14,4 +14,4 @@ loop-a-preserved c =
     let r = c.args in
     let a = c.loop-a.a in
     types_next r.words.now c.loop-a.words (λ i. cond (bits r.adapters i) (get_or r.types i 0) 0) a c.type_of.result c.loop-a.invariant
-    (c.type_of.ensures ∙ ap (λ (b : Bool). cond b (get_or r.types a 0) 0) c.has_adapter.ensures)
+    (c.type_of.ensures ∙ ap (λ (b : Bool). cond b (get_or r.types a 0) 0) c.has.ensures)

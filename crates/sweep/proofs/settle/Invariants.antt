@@ -5,4 +5,4 @@ use Rattle.sweep.specs.Sweeps.{moves_bytes}
 use Rattle.sweep.proofs.settle.Given as goal
 
 abbrev pub invariant-loop : goal.invariant-loop
-invariant-loop l = l.drivers ≡ moves_bytes l.words l.counter (apqn l.adapter l.domain) l.initial.drivers
+invariant-loop l = l.drivers ≡ moves_bytes l.words l.counter (apqn l.queue.adapter l.queue.domain) l.initial.drivers

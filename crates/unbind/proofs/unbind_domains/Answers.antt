@@ -3,11 +3,11 @@ use Rattle.std.proofs.Common.{arith}
 use Rattle.unbind.proofs.Laws.{row_nothing, row_next}
 use Rattle.unbind.proofs.unbind_domains.Goals as goal
 
-pub loop-domain-init : goal.loop-domain-init
-loop-domain-init c = search (row_nothing)
+pub loop-n-init : goal.loop-n-init
+loop-n-init c = search (row_nothing)
 
-pub loop-domain-preserved : goal.loop-domain-preserved
-loop-domain-preserved c = row_next _ _ _ _ _ c.loop-domain.invariant c.unbind_one.ensures (omega arith)
+pub loop-n-preserved : goal.loop-n-preserved
+loop-n-preserved c = row_next _ _ _ _ _ c.loop-n.invariant c.unbind_one.ensures (omega arith)
 
 pub returns-2 : goal.returns-2
-returns-2 c = row_next _ _ _ c.loop-domain.domain _ c.loop-domain.invariant c.unbind_one.ensures (omega arith)
+returns-2 c = row_next _ _ _ c.loop-n.n _ c.loop-n.invariant c.unbind_one.ensures (omega arith)

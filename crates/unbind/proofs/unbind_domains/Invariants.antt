@@ -3,5 +3,5 @@ use Rattle.std.proofs.Common.{◌≡◌}
 use Rattle.unbind.specs.Gone.{with_domain, unbind_row}
 use Rattle.unbind.proofs.unbind_domains.Given as goal
 
-abbrev pub invariant-loop-domain : goal.invariant-loop-domain
-invariant-loop-domain l = l.drivers ≡ unbind_row l.initial.drivers (with_domain l.domains) l.adapter.0 l.domain
+abbrev pub invariant-loop-n : goal.invariant-loop-n
+invariant-loop-n l = l.drivers ≡ unbind_row l.initial.drivers (with_domain l.domains) l.adapter.0 l.n

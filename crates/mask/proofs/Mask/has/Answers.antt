@@ -1,9 +1,8 @@
 -- `Mask::has` meets its contract.
--- Assumes nothing.
-use Rattle.std.proofs.Common.{refl}
-use Rattle.mask.specs.Bits.{digit, bit_at}
+use mathlib.Core.Path.{ap}
+use Rattle.mask.specs.Bits.{bits, digit, bit_at}
 use Rattle.mask.proofs.Mask.has.Goals as goal
 
 pub returns : goal.returns
 unfolding digit bit_at
-returns c = refl
+returns g c = ap (bits c.args.self) c.bit-i.ensures

@@ -2,8 +2,8 @@
 use Rattle.product.proofs.Laws.{has_both, has_not}
 use Rattle.product.proofs.Product.has.Goals as goal
 
-pub returns-then-has_adapter : goal.returns-then-has_adapter
-returns-then-has_adapter c = search (has_both)
+pub returns-then-has : goal.returns-then-has
+returns-then-has c = search (has_both)
 
-pub returns-else-has_adapter : goal.returns-else-has_adapter
-returns-else-has_adapter c = search (has_not)
+pub returns-else-has : goal.returns-else-has
+returns-else-has c = search (has_not)

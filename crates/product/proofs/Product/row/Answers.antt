@@ -2,8 +2,8 @@
 use Rattle.product.proofs.Laws.{row_of, row_none}
 use Rattle.product.proofs.Product.row.Goals as goal
 
-pub returns-then-has_adapter : goal.returns-then-has_adapter
-returns-then-has_adapter c = search (row_of)
+pub returns-then-has : goal.returns-then-has
+returns-then-has c = search (row_of)
 
-pub returns-else-has_adapter : goal.returns-else-has_adapter
-returns-else-has_adapter c = search (row_none)
+pub returns-else-has : goal.returns-else-has
+returns-else-has c = search (row_none)
