@@ -3,7 +3,7 @@
 // Rests on nothing. Bit 0 is the most significant bit of the first word.
 #![tactic(auto)]
 
-ghost use Rattle.std.specs.Prelude.{◌-◌, ◌%◌, ◌^◌, ◌≡◌};
+ghost use Rattle.std.specs.Prelude.{ℕ, ◌-◌, ◌%◌, ◌^◌, ◌≡◌};
 ghost use Rattle.mask.specs.Bits.{bits, no_bits, all_bits, included, excluded};
 
 // An adapter number. It is a kind of its own, so that no call can take a domain number for it.

@@ -7,9 +7,9 @@ use Rattle.guest.proofs.usable.Goals as goal
 pub returns-in-None : goal.returns-in-None
 returns-in-None c =
     let a = c.args in
-    usable_nowhere a.words.now a.drivers.now a.id (apqn a.adapter a.domain) c.in-None.ensures
+    usable_nowhere a.words.now a.drivers.now a.id (apqn a.queue.adapter a.queue.domain) c.in-None.ensures
 
 pub returns-in-Some : goal.returns-in-Some
 returns-in-Some c =
     let a = c.args in
-    c.usable_at.ensures ∙ usable_found a.words.now a.drivers.now a.id (apqn a.adapter a.domain) c.in-Some.ensures
+    c.usable_at.ensures ∙ usable_found a.words.now a.drivers.now a.id (apqn a.queue.adapter a.queue.domain) c.in-Some.ensures

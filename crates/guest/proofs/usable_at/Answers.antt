@@ -12,7 +12,7 @@ pub returns-then-not-is_open : goal.returns-then-not-is_open
 returns-then-not-is_open c =
     let f = c in
     let a = f.args in
-    usable_there a.words.now a.drivers.now a.slot (apqn a.adapter a.domain) false
+    usable_there a.words.now a.drivers.now a.slot (apqn a.queue.adapter a.queue.domain) false
     (sym c.is_open.ensures ∙ c.if-not-is_open.true) refl refl
 
 pub returns : goal.returns
@@ -23,6 +23,6 @@ returns c =
     let o = m in
     let f = o in
     let a = f.args in
-    has_test (apqn a.adapter a.domain) c.has.ensures (ap queues_of p.of-product.ensures)
-    ∙ usable_there a.words.now a.drivers.now a.slot (apqn a.adapter a.domain) true
-    (sym o.is_open.ensures ∙ o.if-not-is_open.false) m.masks_at-m.ensures.adapters m.masks_at-m.ensures.domains
+    has_test (apqn a.queue.adapter a.queue.domain) c.has.ensures (ap queues_of p.from.ensures)
+    ∙ usable_there a.words.now a.drivers.now a.slot (apqn a.queue.adapter a.queue.domain) true
+    (sym o.is_open.ensures ∙ o.if-not-is_open.false) m.masks_at.ensures.adapters m.masks_at.ensures.domains
