@@ -3,12 +3,12 @@
 // Rests on errno, copy, decimal, rules and movednames.
 #![tactic(auto)]
 
-ghost use Rattle.std.specs.Prelude.{◌++◌, ◌+◌, ◌≤◌, ◌<◌, length, take};
+ghost use Rattle.std.specs.Prelude.{◌++◌, ◌+◌, ◌≤◌, ◌<◌, length};
 ghost use Rattle.errno.specs.Errno.{number_of};
 ghost use Rattle.answerline.specs.Answers.{ended, command_line, move_line, sweep_line, said_line, longest, Puts};
 ghost use Rattle.answerline.specs.Added.{Adds};
 
-use errno::{Ascii, Errno};
+use errno::Errno;
 use rules::Moved;
 
 // What a line is answered.
@@ -27,10 +27,7 @@ pub const LONGEST: usize = 22;
 pub fn put(out: &mut [u8], at: usize, said: Said) -> usize
     ensures { Puts (said_line said) at out.entry out.exit result }
 {
-    if out.len() < LONGEST {
-        return at;
-    }
-    if out.len() - LONGEST < at {
+    if out.len() < LONGEST || out.len() - LONGEST < at {
         return at;
     }
     match said {
@@ -46,7 +43,7 @@ fn refused(out: &mut [u8], at: usize, e: Errno) -> usize
     requires { at + longest ≤ length out.old }
     ensures { Adds (command_line (number_of e)) at out.entry out.exit result }
 {
-    named(out, at, b"refused ", errno::name(e))
+    line(out, at, b"refused ", errno::name(e))
 }
 
 // Writes what a move did.
@@ -54,7 +51,7 @@ fn did(out: &mut [u8], at: usize, m: Moved) -> usize
     requires { at + longest ≤ length out.old }
     ensures { Adds (move_line m) at out.entry out.exit result }
 {
-    named(out, at, b"ok ", movednames::word(m))
+    line(out, at, b"ok ", movednames::word(m))
 }
 
 // Writes the moves that a sweep used.
@@ -62,20 +59,8 @@ fn used(out: &mut [u8], at: usize, n: u32) -> usize
     requires { at + longest ≤ length out.old }
     ensures { Adds (sweep_line n) at out.entry out.exit result }
 {
-    let number = decimal::write(n);
-    let bytes = number.bytes;
-    let from = number.from;
-    line(out, at, b"ok ", &bytes[from..])
-}
-
-// Writes a line of a text and a name.
-fn named(out: &mut [u8], at: usize, first: &[u8], name: Ascii) -> usize
-    requires { (name.len ≤ length name.bytes) × (at + length first.now + name.len < length out.old) }
-    ensures { Adds (ended (first.now ++ take name.len name.bytes)) at out.entry out.exit result }
-{
-    let bytes = name.bytes;
-    let n = name.len;
-    line(out, at, first, &bytes[..n])
+    let mut buffer = [0; decimal::DIGITS];
+    line(out, at, b"ok ", decimal::write(n, &mut buffer))
 }
 
 // Writes a line of two texts.

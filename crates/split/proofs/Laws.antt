@@ -3,37 +3,23 @@
 use Prim.Native.Nat.{ℕ, suc, ◌+◌, ◌-◌, ◌≤◌, ◌<◌, zero-le}
 use native.Mathlib.Nat.{add-zero}
 use native.Mathlib.Omega.{arith}
-use mathlib.Core.Bool.{Bool, true, false, cond, ◌||◌}
+use mathlib.Core.Bool.{Bool, true, false, cond, not, ◌||◌}
 use mathlib.Core.List.{List, [], ◌∷◌}
 use mathlib.Core.Path.{◌≡◌, refl, sym, ap, ◌∙◌}
-use lib.Dec.{eqb}
+use lib.Dec.{eqb, ltb}
 use lib.ListN.{length, get_or, take, drop, drop_of_length-le, length-drop}
 use lib.Seq.{drop-cons, drop-drop, take_all, length-take-le}
-use borrow.Author.Tests.{eq-eqb, ne_eqb}
+use borrow.Author.Tests.{ltb-false}
+use Rattle.std.proofs.Common.{Some, None}
+use Rattle.std.specs.List.{position, position_or_len}
+use Rattle.std.specs.Option.{unwrap_or}
 use Rattle.split.specs.Cut.{onto, cut, holds, first_of, end_from, piece_from}
 
--- ---- the end of a piece, byte by byte
+-- ---- the end of a piece
 
-module _ (c : ℕ) (s : List ℕ) (i : ℕ) where
-  pub end_turn : i < length s → (get_or s i 0 ≡ c → ⊥) → end_from c i s ≡ end_from c (i + 1) s
-  unfolding end_from first_of
-  end_turn h n =
-      let next : suc i ≡ i + 1 = omega arith in
-      let here : first_of c (drop i s) ≡ suc (first_of c (drop (i + 1) s)) =
-      ap (first_of c) (drop-cons s i 0 h) ∙ ap (λ (b : Bool). cond b 0 (suc (first_of c (drop (suc i) s)))) (ne_eqb (get_or s i 0) c n)
-      ∙ ap (λ (j : ℕ). suc (first_of c (drop j s))) next in
-      omega (arith, here)
-
-  pub end_here : i < length s → get_or s i 0 ≡ c → end_from c i s ≡ i
-  unfolding end_from first_of
-  end_here h e =
-      let here : first_of c (drop i s) ≡ 0 =
-      ap (first_of c) (drop-cons s i 0 h) ∙ ap (λ (b : Bool). cond b 0 (suc (first_of c (drop (suc i) s)))) (eq-eqb (get_or s i 0) c e) in
-      omega (arith, here)
-
-  pub end_past : length s ≤ i → end_from c i s ≡ i
-  unfolding end_from first_of
-  end_past h = rw (drop_of_length-le s {i = i} h) (add-zero i)
+pub end_past : (c : ℕ) (s : List ℕ) (i : ℕ) → length s ≤ i → end_from c i s ≡ i
+unfolding end_from first_of
+end_past c s i h = rw (drop_of_length-le s {i = i} h) (add-zero i)
 
 pub first_within : (c : ℕ) (s : List ℕ) → first_of c s ≤ length s
 unfolding first_of
@@ -49,6 +35,26 @@ pub end_within : (c i : ℕ) (s : List ℕ) → i ≤ length s → (i ≤ end_fr
 unfolding end_from
 end_within c i s h =
     (omega arith, omega (arith, first_within c (drop i s), length-drop i s))
+
+-- the bytes before the first separator, as `position` counts them
+first_is : (c : ℕ) (s : List ℕ) → position_or_len (λ b. eqb b c) s ≡ first_of c s
+unfolding first_of
+first_is c [] = refl
+first_is c (x ∷ xs) = go (eqb x c) (first_is c xs)
+  where
+    go : (b : Bool) → position_or_len (λ b. eqb b c) xs ≡ first_of c xs → cond (not b) (1 + position_or_len (λ b. eqb b c) xs) 0 ≡ cond b 0 (suc (first_of c xs))
+    go true h = refl
+    go false h = omega (arith, h)
+
+pub found_or_all : (c : ℕ) (s : List ℕ) → unwrap_or (position (λ b. eqb b c) s) (length s) ≡ first_of c s
+found_or_all c s = go (ltb n (length s)) refl
+  where
+    n : ℕ
+    n = position_or_len (λ b. eqb b c) s
+
+    go : (b : Bool) → ltb n (length s) ≡ b → unwrap_or (cond b (Some n) None) (length s) ≡ first_of c s
+    go true e = first_is c s
+    go false e = omega (arith, first_is c s, first_within c s, ltb-false n (length s) e)
 
 -- ---- the pieces
 

@@ -3,21 +3,24 @@
 // Rests on nothing.
 #![tactic(auto)]
 
-ghost use Rattle.std.specs.Prelude.{◌≡◌, ◌||◌};
+ghost use Rattle.std.specs.Prelude.{◌≡◌, ◌==◌, ◌||◌, position};
 ghost use Rattle.split.specs.Cut.{holds, end_from, piece_from};
 
 // Where the piece that begins at an index ends: the first separator from there on, or the end of the bytes.
 pub fn end(s: &[u8], from: usize, c: u8) -> usize
     ensures { result ≡ end_from c from s.now }
 {
-    let mut i = from;
-    while i < s.len() {
-        if s[i] == c {
-            return i;
-        }
-        i += 1;
+    match s.get(from..) {
+        Some(rest) => from + first(rest, c).unwrap_or(rest.len()),
+        None => from,
     }
-    i
+}
+
+// The index of the first separator.
+fn first(s: &[u8], c: u8) -> Option<usize>
+    ensures { result ≡ position (λ b. b == c) s.now }
+{
+    s.iter().position(|b| *b == c)
 }
 
 // The piece that begins at an index, as a part of the lent bytes; past their end there is an empty one.
@@ -35,10 +38,8 @@ pub fn holds(s: &[u8], c: u8) -> bool
     ensures { result ≡ holds c s.now }
 {
     let mut found = false;
-    let mut i = 0usize;
-    while i < s.len() {
-        found = either(found, s[i] == c);
-        i += 1;
+    for b in s {
+        found = either(found, *b == c);
     }
     found
 }

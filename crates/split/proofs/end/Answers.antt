@@ -1,17 +1,20 @@
--- `end` meets its contract. The invariant: the piece from i on ends where the whole one does.
-use native.Mathlib.Omega.{arith}
-use mathlib.Core.Path.{refl, sym, ◌∙◌}
-use Rattle.split.proofs.Laws.{end_turn, end_here, end_past}
+-- `end` meets its contract: the first separator is looked for from the index on.
+use Rattle.std.proofs.Common.{◌≡◌, ◌+◌, ◌∙◌, sym, ap, length, drop, arith}
+use lib.ListN.{length-drop}
+use lib.Seq.{take_all}
+use Rattle.std.specs.Option.{unwrap_or}
+use Rattle.split.specs.Cut.{end_from, first_of}
+use Rattle.split.proofs.Laws.{end_past, found_or_all}
 use Rattle.split.proofs.end.Goals as goal
 
-pub loop-i-init : goal.loop-i-init
-loop-i-init c = refl
+pub returns-in-Some : goal.returns-in-Some
+unfolding end_from
+returns-in-Some c =
+    let a = c.args in
+    let r = c.in-Some.rest.now in
+    let found : unwrap_or c.first.result (length r) ≡ first_of a.c r = rw c.first.ensures (found_or_all a.c r) in
+    let rest : r ≡ drop a.from a.s.now = c.in-Some.ensures.lookup.0.2 ∙ take_all _ _ (omega (arith, length-drop a.from a.s.now)) in
+    ap (λ n. a.from + n) (c.unwrap_or.ensures ∙ found ∙ ap (first_of a.c) rest)
 
-pub returns-then-s-i : goal.returns-then-s-i
-returns-then-s-i c = let l = c.loop-i in sym (l.invariant ∙ end_here _ c.args.s.now l.i (omega arith) c.if-s-i.true)
-
-pub loop-i-preserved : goal.loop-i-preserved
-loop-i-preserved c = let l = c.loop-i in l.invariant ∙ end_turn _ c.args.s.now l.i (omega arith) c.if-s-i.false
-
-pub returns : goal.returns
-returns c = sym (c.loop-i.invariant ∙ end_past _ c.args.s.now c.loop-i.i (omega arith))
+pub returns-in-None : goal.returns-in-None
+returns-in-None c = sym (end_past c.args.c c.args.s.now c.args.from (omega (arith, c.in-None.ensures.lookup)))
