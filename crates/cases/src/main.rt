@@ -4,9 +4,7 @@
 
 ghost use Rattle.std.specs.Prelude.{◌≤◌, length, IfOk};
 
-use guest::Shown;
-use layout::{Drivers, WORDS, Words};
-use listing::Listed;
+use layout::{Drivers, SLOTS, WORDS, Words};
 use mask::{Apid, Apqi, Mask};
 use rules::{Answer, Configuration, Driver, Id, Kind, Matrix, Moved, QUEUES};
 use std::io;
@@ -197,13 +195,13 @@ fn shows(
     let id = id(s);
     let matrix = matrix(s);
     match letter {
-        b'i' => number(rt, lookup::find(words, id) as u64),
+        b'i' => number(rt, lookup::find(words, id).unwrap_or(SLOTS) as u64),
         b'y' => yes(
             rt,
             guest::usable(words, drivers, id, Apid(byte(s, 2)), Apqi(byte(s, 3))),
         ),
-        b'k' => masks(rt, guest::masks(words, drivers, id, matrix)),
-        b'j' => lines(rt, guest::masks(words, drivers, id, matrix)),
+        b'k' => masks(rt, words, drivers, id, matrix),
+        b'j' => lines(rt, words, drivers, id, matrix),
         _ => list(rt, words, drivers, id, matrix, s),
     }
 }
@@ -215,19 +213,35 @@ fn matrix(s: &[u8]) -> Matrix {
     }
 }
 
-fn masks(rt: &impl Print, r: Shown) -> io::Result<()> {
-    let a = r.answer;
-    let m = r.masks;
-    answer(rt, a)?;
-    if let Answer::Done = a {
-        print::masks(rt, m)?;
+fn masks(
+    rt: &impl Print,
+    words: &Words,
+    drivers: &Drivers,
+    id: Id,
+    matrix: Matrix,
+) -> io::Result<()> {
+    match guest::masks(words, drivers, id, matrix) {
+        Ok(m) => {
+            answer(rt, Ok(()))?;
+            print::masks(rt, m)?;
+            Ok(())
+        }
+        Err(e) => answer(rt, Err(e)),
     }
-    Ok(())
 }
 
-fn lines(rt: &impl Print, r: Shown) -> io::Result<()> {
-    let m = r.masks;
-    number(rt, listing::lines(m) as u64)
+// How many lines a matrix has: none, where no device has the id.
+fn lines(
+    rt: &impl Print,
+    words: &Words,
+    drivers: &Drivers,
+    id: Id,
+    matrix: Matrix,
+) -> io::Result<()> {
+    match guest::masks(words, drivers, id, matrix) {
+        Ok(m) => number(rt, listing::lines(m) as u64),
+        Err(_) => number(rt, 0),
+    }
 }
 
 fn list(
@@ -242,10 +256,14 @@ fn list(
     let place = value(s, 3) as usize;
     let room = value(s, 4) as usize;
     if room < 33 {
-        listed(
-            rt,
-            listing::list(words, drivers, id, matrix, place, &mut buf[..room]),
-        )?;
+        match listing::list(words, drivers, id, matrix, place, &mut buf[..room]) {
+            Ok(filled) => {
+                answer(rt, Ok(()))?;
+                print::decimal(rt, filled.written as u64)?;
+                print::number(rt, b" ", filled.next as u64)?;
+            }
+            Err(e) => answer(rt, Err(e))?,
+        }
         whole(rt, buf)?;
     }
     Ok(())
@@ -254,16 +272,6 @@ fn list(
 fn whole(rt: &impl Print, buf: [u8; 32]) -> io::Result<()> {
     print::text(rt, &buf)?;
     print::text(rt, b"\n")?;
-    Ok(())
-}
-
-fn listed(rt: &impl Print, r: Listed) -> io::Result<()> {
-    let a = r.answer;
-    answer(rt, a)?;
-    if let Answer::Done = a {
-        print::decimal(rt, r.written as u64)?;
-        print::number(rt, b" ", r.next as u64)?;
-    }
     Ok(())
 }
 

@@ -103,8 +103,8 @@ fn said(answer: Answer) -> Said
     ensures { said_line result ≡ command_line (answered answer) }
 {
     match answer {
-        Answer::Done => Said::Done,
-        Answer::Refused(e) => Said::Refused(e),
+        Ok(()) => Said::Done,
+        Err(e) => Said::Refused(e),
     }
 }
 

@@ -2,7 +2,6 @@
 // the live queue, and is refused by name. No control domain is assigned to guest 1: those of its masks are its usage domains.
 #![tactic(auto)]
 
-use guest::Shown;
 use layout::{Drivers, WORDS, Words};
 use mask::Mask;
 use rules::{Answer, Configuration, Id, Kind, Matrix, QUEUES};
@@ -85,7 +84,7 @@ fn step(
     };
     match what {
         b'm' => list(rt, words, drivers, id),
-        b'g' => masks(rt, guest::masks(words, drivers, id, Matrix::Guest)),
+        b'g' => masks(rt, words, drivers, id),
         b's' => moves(rt, sweep::sweep(words, drivers, sweep::MOST_MOVES)),
         b'f' | b'p' | b'q' | b'k' => answer(rt, host(words, drivers, what, text)),
         _ => answer(rt, device(words, what, id, text)),
@@ -144,13 +143,16 @@ fn list(rt: &impl Print, words: &Words, drivers: &Drivers, id: Id) -> io::Result
     let mut buf = [0u8; 64];
     let r = listing::list(words, drivers, id, Matrix::Guest, 0, &mut buf);
     print::text(rt, b"\n")?;
-    print::first(rt, &buf, r.written)?;
+    if let Ok(filled) = r {
+        print::first(rt, &buf, filled.written)?;
+    }
     Ok(())
 }
 
-fn masks(rt: &impl Print, r: Shown) -> io::Result<()> {
-    let m = r.masks;
+fn masks(rt: &impl Print, words: &Words, drivers: &Drivers, id: Id) -> io::Result<()> {
     print::text(rt, b"\n")?;
-    print::masks(rt, m)?;
+    if let Ok(m) = guest::masks(words, drivers, id, Matrix::Guest) {
+        print::masks(rt, m)?;
+    }
     Ok(())
 }

@@ -24,9 +24,12 @@ matrix s i w = in_product (matrix_adapters w s (device_with i s.device)) (matrix
 unfoldable pub list_errno : State → Id → ℕ → ℕ
 list_errno s i n = cond (ltb (slot_of i s.device) slots) (cond (ltb n line_size) (number_of Enospc) 0) (number_of Enoent)
 
+-- nothing is written
+abbrev pub Untouched : List ℕ → List ℕ → Type 0
+Untouched before after = after ≡ before
+
 -- a call with a place and the buffer `before`, which it leaves as `after`: bytes written and the next place, or a refusal
 pub record Listing (s : State) (i : Id) (w : Matrix) (place : ℕ) (before after : List ℕ) (r : Result Filled Errno) : Type 0 where
   pub answer : answered r ≡ list_errno s i (length before)
   pub accepted : IfOk r (λ f. Written (matrix s i w) place before after f.written f.next)
-  -- nothing is written
-  pub refused : OnErr r (after ≡ before)
+  pub refused : OnErr r (Untouched before after)

@@ -77,8 +77,7 @@ fn left(rt: &impl Print, words: &Words, drivers: &Drivers) -> io::Result<()> {
 
 fn device(rt: &impl Print, words: &Words, drivers: &Drivers, n: u64) -> io::Result<()> {
     let id = Id { hi: 0, lo: n };
-    let slot = lookup::find(words, id);
-    if record::present(words, slot) {
+    if let Some(slot) = lookup::find(words, id) {
         print::number(rt, b"device ", n)?;
         if record::is_open(words, slot) {
             print::text(rt, b" open\n")?;
@@ -97,12 +96,13 @@ fn matrix(
     id: Id,
     which: Matrix,
 ) -> io::Result<()> {
-    let shown = guest::masks(words, drivers, id, which);
-    let m = shown.masks;
-    print::masks(rt, m)?;
+    if let Ok(m) = guest::masks(words, drivers, id, which) {
+        print::masks(rt, m)?;
+    }
     let mut lines = [0u8; 256];
-    let listed = listing::list(words, drivers, id, which, 0, &mut lines);
-    print::first(rt, &lines, listed.written)?;
-    print::number(rt, b" next ", listed.next as u64)?;
+    if let Ok(filled) = listing::list(words, drivers, id, which, 0, &mut lines) {
+        print::first(rt, &lines, filled.written)?;
+        print::number(rt, b" next ", filled.next as u64)?;
+    }
     Ok(())
 }

@@ -4,10 +4,10 @@ use Rattle.rules.specs.Commands.{Answer, answered}
 use Rattle.answerline.specs.Answers.{said_line, command_line}
 use Rattle.consoleline.proofs.said.Goals as goal
 
-pub returns-in-Done : goal.returns-in-Done
+pub returns-in-Ok : goal.returns-in-Ok
 unfolding said_line
-returns-in-Done c = sym (ap (λ (a : Answer). command_line (answered a)) c.in-Done.is)
+returns-in-Ok c = sym (ap (λ (a : Answer). command_line (answered a)) c.in-Ok.is)
 
-pub returns-in-Refused : goal.returns-in-Refused
+pub returns-in-Err : goal.returns-in-Err
 unfolding said_line
-returns-in-Refused c = sym (ap (λ (a : Answer). command_line (answered a)) c.in-Refused.is)
+returns-in-Err c = sym (ap (λ (a : Answer). command_line (answered a)) c.in-Err.is)
