@@ -1,19 +1,16 @@
 -- A request that was carried out, and its answer line.
 -- Assumes nothing.
-use Prim.Native.Nat.{ℕ, ◌+◌, ◌-◌, ◌*◌, ◌%◌, ◌≤◌, ◌<◌}
+use Prim.Native.Nat.{ℕ, ◌+◌, ◌*◌, ◌%◌, ◌<◌}
 use native.Mathlib.Omega.{arith}
 use mathlib.Core.Bool.{cond}
 use mathlib.Core.List.{List, []}
 use mathlib.Core.Path.{◌≡◌, refl, sym, ap, subst, ◌∙◌}
-use lib.ListN.{length, take, drop, length-drop, drop_of_length-le}
-use lib.Seq.{take_all}
-use borrow.Author.Tests.{le-leb, lt-leb, ne_eqb}
 use Rattle.errno.specs.Outcome.{Outcome, granted, refused}
 use Rattle.errno.specs.Errno.{number_of}
-use Rattle.errno.specs.declared.Errno.TheVariants.{Einval}
+use Rattle.errno.specs.declared.Errno.{Errno}
 use Rattle.rules.specs.declared.Configuration.{Configuration}
 use Rattle.rules.specs.declared.Moved.{Moved}
-use Rattle.rules.specs.Queues.{move_answer, moved_number, most_moves}
+use Rattle.rules.specs.Queues.{move_answer, moved_number}
 use Rattle.rules.specs.Commands.{Answer, answered}
 use Rattle.rules.specs.Commands as Commands
 use Rattle.layout.specs.Layout.{state_in}
@@ -24,17 +21,12 @@ use Rattle.sweep.specs.Sweeps.{Sweeping}
 use Rattle.model.specs.Steps.{Command, configure, queue_of, rule, after_all}
 use Rattle.calls.specs.Calls.{effect, configures}
 use Rattle.calls.proofs.Chains.{called}
-use Rattle.encoding.specs.Encoding.{Request, command, move, sweep, command_of}
+use Rattle.encoding.specs.Encoding.{Request, command, move, sweep}
 use Rattle.request.specs.Requests.{answer_byte, Stepped}
 use Rattle.request.proofs.Laws.{obeyed, moved, swept}
 use Rattle.run.proofs.Laws.{stays, further}
 use Rattle.configure.specs.Configured.{configured}
-use Rattle.split.specs.Cut.{cut}
 use Rattle.answerline.specs.Answers.{command_line, move_line, sweep_line}
-use Rattle.linewords.specs.declared.Parsed.{Parsed}
-use Rattle.wordtext.specs.Words.{bad}
-use Rattle.linewords.specs.Requests.{for_config}
-use Rattle.linewords.specs.Parsed.{asked}
 use Rattle.consoleline.specs.Answering.{answer_to, answer_for, steps_in, after_for, leaves_in, Answered}
 
 -- what is asked for, said in another way
@@ -42,9 +34,9 @@ pub asked_as : {o p : Outcome Request} {m n : Memory} {line : List ℕ} → o �
 asked_as {o} {p} {m} {n} {line} e a = subst (λ (x : Outcome Request). Answered x m n line) (sym e) a
 
 -- bad text
-pub answered_bad : (m : Memory) → Answered (refused Einval) m m (command_line (number_of Einval))
+pub answered_bad : (e : Errno) (m : Memory) → Answered (refused e) m m (command_line (number_of e))
 unfolding answer_for steps_in after_for leaves_in after_all
-answered_bad m = record { answer = refl; state = refl; memory = refl; calls = stays m }
+answered_bad e m = record { answer = refl; state = refl; memory = refl; calls = stays m }
 
 -- a request that was carried out, with its answer
 stepped : {x : Request} {m n : Memory} {r : ℕ} {line : List ℕ} → Stepped x m n r → line ≡ answer_to x (read m) → Answered (granted x) m n line
@@ -76,35 +68,3 @@ answered_move a d ws qs rs m ha hd c =
 pub answered_sweep : (b : ℕ) (ws qs rs : List ℕ) (w : Swept) → Sweeping b ws qs rs w → Answered (granted (sweep b)) (memory ws qs) (memory ws rs) (sweep_line w.used)
 unfolding answer_to
 answered_sweep b ws qs rs w c = stepped (swept b ws qs rs (cond w.more 1 0) w refl c) (ap sweep_line c.sweep.number)
-
--- ---- what a `Parsed` asks for, by its operation
-
-module _ (line : List ℕ) (p : Parsed) where
-  pub is_command : p.op ≤ 7 → asked line p ≡ granted (command (command_of p.op p.kind p.id (drop p.text line)))
-  unfolding asked
-  is_command h = rw (le-leb p.op 7 h)
-
-  pub is_config : p.op ≡ 8 → asked line p ≡ for_config (cut 32 (drop p.text line))
-  unfolding asked
-  is_config e = rw e
-
-  pub is_move : p.op ≡ 9 → asked line p ≡ granted (move p.adapter.0 p.domain.0)
-  unfolding asked
-  is_move e = rw e
-
-  pub is_sweep : p.op ≡ 10 → asked line p ≡ granted (sweep most_moves)
-  unfolding asked
-  is_sweep e = rw e
-
-  pub is_bad : 7 < p.op → (p.op ≡ 8 → ⊥) → (p.op ≡ 9 → ⊥) → (p.op ≡ 10 → ⊥) → asked line p ≡ bad
-  unfolding asked
-  is_bad h a b c = rw (lt-leb p.op 7 h, ne_eqb p.op 8 a, ne_eqb p.op 9 b, ne_eqb p.op 10 c)
-
--- ---- the rest of a line
-
-pub rest_within : (s : List ℕ) (at : ℕ) → take (length s - at) (drop at s) ≡ drop at s
-rest_within s at = take_all (length s - at) (drop at s) (omega (arith, length-drop at s))
-
-pub rest_past : (s : List ℕ) (at : ℕ) → length s < at → take (length s - length s) (drop (length s) s) ≡ drop at s
-rest_past s at h =
-    rest_within s (length s) ∙ drop_of_length-le s {i = length s} (omega arith) ∙ sym (drop_of_length-le s {i = at} (omega arith))
