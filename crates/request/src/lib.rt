@@ -8,7 +8,7 @@ ghost use Rattle.encoding.specs.Encoding.{move, sweep};
 ghost use Rattle.request.specs.Requests.{Stepped, Obeyed};
 
 use layout::{Drivers, Words};
-use mask::{Apid, Apqi};
+use mask::{Apid, Apqi, Apqn};
 use rules::{Answer, Id, Kind};
 
 // Carries out the command of an operation.
@@ -40,7 +40,7 @@ pub fn make_move(words: &Words, drivers: &mut Drivers, adapter: Apid, domain: Ap
     ensures { Stepped (move adapter.0 domain.0) (memory words.now drivers.old)
         (memory words.now drivers.new) result }
 {
-    rules::moved_number(bind::move_queue(words, drivers, adapter, domain))
+    rules::moved_number(bind::move_queue(words, drivers, Apqn { adapter, domain }))
 }
 
 // Makes a sweep, and tells by a byte whether moves remain.
