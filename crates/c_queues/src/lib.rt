@@ -5,6 +5,7 @@
 #![tactic(auto)]
 
 ghost use Rattle.std.specs.Prelude.{◌≡◌};
+ghost use Rattle.rules.specs.State.{apqn};
 ghost use Rattle.rules.specs.Queues.{target};
 ghost use Rattle.layout.specs.Lent.{state};
 ghost use Rattle.due.specs.Due.{Remains};
@@ -15,7 +16,7 @@ ghost use Rattle.served.specs.Served.{id_in, queue_with, MoveServes, SweepServes
 
 use fields::ID_BYTES;
 use layout::{Drivers, Words};
-use mask::{Apid, Apqi};
+use mask::{Apid, Apqi, Apqn};
 
 // 0 idle, 1 released, 2 bound to host, 3 bound to passthrough.
 #[unsafe(no_mangle)]
@@ -46,18 +47,20 @@ pub extern "C" fn zk_raw_remaining(words: &Words, drivers: &Drivers) -> u32
 }
 
 // 0 unbound, 1 host, 2 passthrough.
+#[tactic(auto, unfolding(layout::specs::Layout::state_in))]
 #[unsafe(no_mangle)]
 pub extern "C" fn zk_raw_driver(words: &Words, drivers: &Drivers, apid: u8, apqi: u8) -> u8
     ensures { result ≡ driver_number ((state words.entry drivers.entry).driver (queue_with apid apqi)) }
 {
-    drivernumbers::driver(drivers, Apid(apid), Apqi(apqi))
+    drivernumbers::driver(drivers, queue(apid, apqi))
 }
 
+#[tactic(auto, unfolding(layout::specs::Layout::state_in))]
 #[unsafe(no_mangle)]
 pub extern "C" fn zk_raw_target(words: &Words, drivers: &Drivers, apid: u8, apqi: u8) -> u8
     ensures { result ≡ driver_number (target (state words.entry drivers.entry) (queue_with apid apqi)) }
 {
-    drivernumbers::target(words, Apid(apid), Apqi(apqi))
+    drivernumbers::target(words, queue(apid, apqi))
 }
 
 // 1 where the guest of the device can use the queue now, else 0.
@@ -72,4 +75,13 @@ pub extern "C" fn zk_raw_usable(
     ensures { result ≡ bit (usable_with (id_in id.entry) (state words.entry drivers.entry) (queue_with apid apqi)) }
 {
     shown::flag(guest::usable(words, drivers, fields::id_of(id), Apid(apid), Apqi(apqi)))
+}
+
+fn queue(apid: u8, apqi: u8) -> Apqn
+    ensures { apqn result.adapter result.domain ≡ queue_with apid apqi }
+{
+    Apqn {
+        adapter: Apid(apid),
+        domain: Apqi(apqi),
+    }
 }

@@ -10,7 +10,7 @@ ghost use Rattle.request.specs.Requests.{Stepped, Obeyed};
 
 use encoding::Command;
 use layout::{Drivers, Words};
-use mask::{Apid, Apqi};
+use mask::Apqn;
 use rules::Answer;
 
 // Carries out a command.
@@ -33,11 +33,11 @@ pub fn command(words: &mut Words, drivers: &mut Drivers, command: Command) -> An
 }
 
 // Makes a move, and gives its answer as a byte.
-pub fn make_move(words: &Words, drivers: &mut Drivers, adapter: Apid, domain: Apqi) -> u8
-    ensures { Stepped (move adapter.0 domain.0) (memory words.now drivers.old)
+pub fn make_move(words: &Words, drivers: &mut Drivers, queue: Apqn) -> u8
+    ensures { Stepped (move queue.adapter.0 queue.domain.0) (memory words.now drivers.old)
         (memory words.now drivers.new) result }
 {
-    u8::from(bind::move_queue(words, drivers, adapter, domain))
+    u8::from(bind::move_queue(words, drivers, queue))
 }
 
 // Makes a sweep, and tells by a byte whether moves remain.
