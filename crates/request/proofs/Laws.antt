@@ -8,12 +8,6 @@ use mathlib.Core.Path.{◌≡◌, refl, sym, ap, subst, ◌∙◌}
 use lib.Dec.{eqb}
 use lib.ListN.{get_or, drop}
 use borrow.Author.Tests.{ne_eqb, le-leb, lt-leb}
-<<<<<<< HEAD
-use Rattle.rules.specs.declared.Id.{Id}
-use Rattle.rules.specs.declared.Kind.{Kind}
-=======
-use Rattle.rules.specs.declared.Answer.{Answer}
->>>>>>> c0c7f6da5a1433ca589d915c1236a44af3a98bc9
 use Rattle.rules.specs.declared.Moved.{Moved}
 use Rattle.rules.specs.State.{State}
 use Rattle.rules.specs.Queues.{move_answer, moved_number, remaining}

@@ -19,7 +19,7 @@ returns c =
     let test = words in
     let start = test in
     let a = start.args in
-    let away = gone_away a.configuration a.words.now was.configured-was.result was.configured-was.ensures.members in
+    let away = gone_away a.configuration a.words.now was.configured.result was.configured.ensures.members in
     config_done a.configuration a.words.now a.drivers.now (sym test.if-beyond.false ∙ test.beyond.ensures) c.put_configuration.ensures
     (c.unbind.ensures ∙ ap (λ (u : Bits). unbind a.drivers.now u queues) away)
     start.well_formed.1.1.0

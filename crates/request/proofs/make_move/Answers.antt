@@ -7,4 +7,4 @@ pub returns : goal.returns
 returns c =
     let s = c in
     let a = s.args in
-    moved a.adapter.0 a.domain.0 a.words.now a.drivers.now _ _ c.move_queue.result (omega (arith, s)) (omega (arith, s)) c.moved_number.ensures c.move_queue.ensures
+    moved a.queue.adapter.0 a.queue.domain.0 a.words.now a.drivers.now _ _ c.move_queue.result (omega (arith, s)) (omega (arith, s)) c.from.ensures c.move_queue.ensures
