@@ -7,11 +7,11 @@ use mathlib.Core.Bool.{Bool, true, false, cond, not, ◌||◌}
 use mathlib.Core.List.{List, [], ◌∷◌}
 use mathlib.Core.Path.{◌≡◌, refl, sym, ap, ◌∙◌}
 use lib.Dec.{eqb, ltb}
-use lib.ListN.{length, take, drop, drop_of_length-le, length-drop}
-use lib.Seq.{drop-drop, take_all, length-take-le}
+use lib.ListN.{length, get_or, take, drop, drop_of_length-le, length-drop}
+use lib.Seq.{drop-cons, drop-drop, take_all, length-take-le}
 use borrow.Author.Tests.{ltb-false}
 use Rattle.std.proofs.Common.{Some, None}
-use Rattle.std.specs.List.{position, position_or_len, list_any}
+use Rattle.std.specs.List.{position, position_or_len}
 use Rattle.std.specs.Option.{unwrap_or}
 use Rattle.split.specs.Cut.{onto, cut, holds, first_of, end_from, piece_from}
 
@@ -155,10 +155,27 @@ piece_free c i s = first_free c (drop i s)
 
 -- ---- whether a byte occurs
 
-pub holds_any : (c : ℕ) (s : List ℕ) → list_any (λ x. eqb x c) s ≡ holds c s
+-- of the bytes from i on, when byte i is looked at
+pub holds_turn : (c : ℕ) (s : List ℕ) (i : ℕ) (found : Bool) {b next : Bool} → i < length s → b ≡ eqb (get_or s i 0) c → next ≡ (found || b)
+    → (found || holds c (drop i s)) ≡ (next || holds c (drop (i + 1) s))
 unfolding holds
-holds_any c [] = refl
-holds_any c (x ∷ xs) = ap (λ (b : Bool). eqb x c || b) (holds_any c xs)
+holds_turn c s i found {b} {next} h eb en =
+    let step : suc i ≡ i + 1 = omega arith in
+    ap (λ (l : List ℕ). found || holds c l) (drop-cons s i 0 h) ∙ ap (λ (k : ℕ). found || (eqb (get_or s i 0) c || holds c (drop k s))) step
+    ∙ ap (λ (t : Bool). found || (t || holds c (drop (i + 1) s))) (sym eb) ∙ go found b (holds c (drop (i + 1) s))
+    ∙ ap (λ (t : Bool). t || holds c (drop (i + 1) s)) (sym en)
+  where
+    go : (x y z : Bool) → (x || (y || z)) ≡ ((x || y) || z)
+    go true y z = refl
+    go false y z = refl
+
+pub holds_end : (c : ℕ) (s : List ℕ) (i : ℕ) (found : Bool) → length s ≤ i → (found || holds c (drop i s)) ≡ found
+unfolding holds
+holds_end c s i found h = ap (λ (l : List ℕ). found || holds c l) (drop_of_length-le s {i = i} h) ∙ go found
+  where
+    go : (x : Bool) → (x || false) ≡ x
+    go true = refl
+    go false = refl
 
 -- where a piece ends, by its length
 pub piece_end : (c i : ℕ) (s : List ℕ) {p : List ℕ} → p ≡ piece_from c i s → i ≤ length s → (i + length p ≡ end_from c i s) × (i + length p ≤ length s)

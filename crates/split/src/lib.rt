@@ -3,7 +3,7 @@
 // Rests on nothing.
 #![tactic(auto)]
 
-ghost use Rattle.std.specs.Prelude.{◌≡◌, ◌==◌, position};
+ghost use Rattle.std.specs.Prelude.{◌≡◌, ◌==◌, ◌||◌, position};
 ghost use Rattle.split.specs.Cut.{holds, end_from, piece_from};
 
 // Where the piece that begins at an index ends: the first separator from there on, or the end of the bytes.
@@ -33,9 +33,20 @@ pub fn piece(s: &[u8], from: usize, c: u8) -> &[u8]
     &s[from..end(s, from, c)]
 }
 
-// Whether a byte occurs.
+// Whether a byte occurs. All bytes are looked at, in a loop that has no way out, which compilers make wide.
 pub fn holds(s: &[u8], c: u8) -> bool
     ensures { result ≡ holds c s.now }
 {
-    s.contains(&c)
+    let mut found = false;
+    for b in s {
+        found = either(found, *b == c);
+    }
+    found
+}
+
+// Asked about its second argument first, which is of the byte at hand: the other way round rustc 1.95 does not make the loop wide.
+fn either(a: bool, b: bool) -> bool
+    ensures { result ≡ (a || b) }
+{
+    if b { true } else { a }
 }
