@@ -12,22 +12,24 @@ pub struct LineReader<'a> {
     pub at: usize,
 }
 
-pub fn new<'a>(line: &'a [u8], at: usize) -> LineReader<'a>
-    ensures { (result.line ≡ line.entry) × (result.at ≡ at) }
-{
-    LineReader { line, at }
-}
+impl<'a> LineReader<'a> {
+    pub fn new(line: &'a [u8], at: usize) -> LineReader<'a>
+        ensures { (result.line ≡ line.entry) × (result.at ≡ at) }
+    {
+        LineReader { line, at }
+    }
 
-// The word that begins at the reader's place.
-pub fn word<'a>(r: LineReader<'a>) -> &'a [u8]
-    ensures { result.now ≡ piece_from 32 r.entry.at r.entry.line.now }
-{
-    split::piece(r.line, r.at, b' ')
+    // The word that begins at the reader's place.
+    pub fn word(self) -> &'a [u8]
+        ensures { result.now ≡ piece_from 32 self.entry.at self.entry.line.now }
+    {
+        split::piece(self.line, self.at, b' ')
+    }
 }
 
 // The word that begins at a place of a line, for callers that have no reader.
 pub fn word_at(line: &[u8], at: usize) -> &[u8]
     ensures { result.now ≡ piece_from 32 at line.now }
 {
-    word(new(line, at))
+    LineReader::new(line, at).word()
 }

@@ -11,10 +11,8 @@ pub fn part(s: &[u8], c: u8, k: usize) -> &[u8]
     ensures { result.now ≡ part c k s.now }
 {
     let mut start = 0usize;
-    let mut left = k;
-    while 0 < left {
+    for _ in 0..k {
         start = next(s, start, c);
-        left -= 1;
     }
     &s[start..split::end(s, start, c)]
 }
