@@ -35,13 +35,10 @@ pub fn configuration(words: &Words, out: &mut [u8; CONFIGURATION_BYTES])
     ensures { out.new ≡ configuration_bytes (config words.entry) }
 {
     let mut front = [0u8; MASKS_BYTES];
-    let adapters = record::configured_adapters(words);
-    let domains = record::configured_domains(words);
-    let controls = record::configured_controls(words);
     let m = Masks {
-        adapters: adapters,
-        domains: domains,
-        controls: controls,
+        adapters: record::configured_adapters(words),
+        domains: record::configured_domains(words),
+        controls: record::configured_controls(words),
     };
     matrixbytes::put_masks(m, &mut front);
     put(words, &front, out);
@@ -52,10 +49,8 @@ fn put(words: &Words, front: &[u8; MASKS_BYTES], out: &mut [u8])
     requires { (length front.now ≡ 96) × (length out.old ≡ 352) }
     ensures { out.new ≡ front.now ++ type_bytes (config words.entry) }
 {
-    let mut i = 0usize;
-    while i < CONFIGURATION_BYTES {
-        out[i] = byte_at(words, front, i);
-        i += 1;
+    for (i, byte) in out.iter_mut().enumerate() {
+        *byte = byte_at(words, front, i);
     }
 }
 
@@ -65,14 +60,15 @@ fn byte_at(words: &Words, front: &[u8; MASKS_BYTES], i: usize) -> u8
     ensures { result ≡ get_or (front.now ++ type_bytes (config words.entry)) i 0 }
 {
     if i < MASKS_BYTES {
-        return front[i];
+        front[i]
+    } else {
+        type_byte(record::hardware_type(words, Apid((i - MASKS_BYTES) as u8)))
     }
-    type_byte(record::hardware_type(words, Apid((i - MASKS_BYTES) as u8)))
 }
 
 // A type is written as at most 255.
 fn type_byte(t: u64) -> u8
     ensures { result ≡ min t 255 }
 {
-    if t < 255 { (t % 256) as u8 } else { 255 }
+    u8::try_from(t).unwrap_or(u8::MAX)
 }

@@ -1,6 +1,6 @@
 // The queues of a product as text: a line of eight bytes for each, by ascending queue.
 //
-// Rests on digits, copy, mask, rules and product.
+// Rests on digits, mask, rules and product.
 #![tactic(auto)]
 
 ghost use Rattle.std.specs.Prelude.{◌+◌, ◌≤◌, ◌<◌, ◌≡◌, length};
@@ -27,22 +27,16 @@ pub struct Filled {
 pub fn write(product: Product, place: usize, buf: &mut [u8]) -> Filled
     ensures { Written (queues_of product) place buf.old buf.new result.written result.next }
 {
-    let mut coming = place;
-    let mut at = 0usize;
+    let mut at = 0;
     let mut next = place;
-    while coming < QUEUES {
-        let queue = coming;
-        coming += 1;
+    for queue in place..QUEUES {
         if has(product, queue) {
             if buf.len() - at < LINE {
-                return Filled {
-                    written: at,
-                    next: next,
-                };
+                return Filled { written: at, next };
             }
             put_line(buf, at, queue);
             at += LINE;
-            next = coming;
+            next = queue + 1;
         }
     }
     Filled {
@@ -66,11 +60,10 @@ fn put_line(buf: &mut [u8], at: usize, queue: usize)
     requires { (at + line_size ≤ length buf.old) × (queue < queues) }
     ensures { buf.new ≡ with_line buf.old at queue }
 {
-    let line = line(queue);
-    copy::copy(buf, at, &line);
+    buf[at..at + LINE].copy_from_slice(&line(queue));
 }
 
-fn line(queue: usize) -> [u8; 8]
+fn line(queue: usize) -> [u8; LINE]
     requires { queue < queues }
     ensures { result ≡ line_of queue }
 {

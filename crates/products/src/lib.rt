@@ -35,10 +35,11 @@ pub fn assigned(words: &Words, slot: usize) -> Product
     ensures { AssignedProduct (devices words.entry slot) result }
 {
     if record::present(words, slot) {
-        return Product {
+        Product {
             adapters: record::numbers(words, slot, Kind::Adapter),
             domains: record::numbers(words, slot, Kind::Domain),
-        };
+        }
+    } else {
+        Product::empty()
     }
-    Product::empty()
 }

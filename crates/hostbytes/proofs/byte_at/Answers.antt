@@ -13,8 +13,8 @@ returns-then-i-lt-MASKS_BYTES c =
     let a = c.args in
     sym (get_or-append a.front.now (type_bytes (config a.words)) 0 a.i (omega arith))
 
-pub returns : goal.returns
-returns c =
+pub returns-else-i-lt-MASKS_BYTES : goal.returns-else-i-lt-MASKS_BYTES
+returns-else-i-lt-MASKS_BYTES c =
     let s = c in
     c.type_byte.ensures
     ∙ ap (λ (t : ℕ). min t 255) c.hardware_type.ensures

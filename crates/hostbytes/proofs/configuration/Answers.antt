@@ -15,9 +15,6 @@ put-requires c = (ap length c.put_masks.ensures ∙ masks_long _ _ _, search rul
 pub returns : goal.returns
 unfolding configuration_bytes
 returns c =
-    let p = c in
-    let n = p in
-    let s = n in
     c.put.ensures
-    ∙ ap (λ (l : List ℕ). l ++ type_bytes (config s.args.words)) p.put_masks.ensures
-    ∙ rw (n.configured_controls-controls.ensures, n.configured_domains-domains.ensures, n.configured_adapters-adapters.ensures)
+    ∙ ap (λ (l : List ℕ). l ++ type_bytes (config c.args.words)) c.put_masks.ensures
+    ∙ rw (c.configured_controls.ensures, c.configured_domains.ensures, c.configured_adapters.ensures)

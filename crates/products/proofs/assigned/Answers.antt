@@ -8,5 +8,5 @@ pub returns-then-present : goal.returns-then-present
 unfolding numbers_of
 returns-then-present c = search (of_device)
 
-pub returns : goal.returns
-returns c = search (of_none)
+pub returns-else-present : goal.returns-else-present
+returns-else-present c = search (of_none)
