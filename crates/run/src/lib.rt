@@ -21,7 +21,8 @@ pub fn run(
 ) -> usize
     ensures { Runs adapter domain steps.entry answers.entry answers.exit words.exit drivers.exit result }
 {
-    setup::fresh(words, drivers, adapter.0 as u64, domain.0 as u64);
+    // Limits of a byte are not refused.
+    let _ = setup::fresh(words, drivers, adapter.0 as u64, domain.0 as u64);
     carry_out(words, drivers, steps, answers)
 }
 
