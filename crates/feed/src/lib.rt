@@ -55,8 +55,8 @@ pub fn feed(
 ) -> Fed
     ensures { Feeds held part.entry line out words drivers result }
 {
-    let n = least(part.len(), out.len() / LONGEST);
-    take_part(words, drivers, line, least(held, KEPT), &part[..n], out)
+    let n = part.len().min(out.len() / LONGEST);
+    take_part(words, drivers, line, held.min(KEPT), &part[..n], out)
 }
 
 // Ends the input: a line that is held counts unless it is empty.
@@ -75,7 +75,7 @@ pub fn finish(
     if held == 0 {
         return 0;
     }
-    last(words, drivers, line, least(held, KEPT), out)
+    last(words, drivers, line, held.min(KEPT), out)
 }
 
 fn last(words: &mut Words, drivers: &mut Drivers, line: &[u8], held: usize, out: &mut [u8]) -> usize
@@ -125,7 +125,7 @@ fn join(line: &mut [u8], held: usize, bytes: &[u8]) -> usize
     ensures value { result ≡ held + min (length bytes.now) (most_kept - held) }
     ensures line_after { line.new ≡ joined_at line.old held bytes.now }
 {
-    let n = least(bytes.len(), KEPT - held);
+    let n = bytes.len().min(KEPT - held);
     copy::copy(line, held, &bytes[..n]);
     held + n
 }
@@ -162,10 +162,4 @@ fn one(words: &mut Words, drivers: &mut Drivers, line: &[u8], out: &mut [u8], w:
 {
     let said = consoleline::obey_piece(words, drivers, line);
     answerline::put(out, w, said)
-}
-
-fn least(a: usize, b: usize) -> usize
-    ensures { result ≡ min a b }
-{
-    if a < b { a } else { b }
 }

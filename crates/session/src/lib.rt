@@ -4,7 +4,7 @@
 // Rests on errno, rules, layout, encoding, served, answerline and feed.
 #![tactic(auto)]
 
-ghost use Rattle.std.specs.Prelude.{◌≡◌, ◌≤◌, length};
+ghost use Rattle.std.specs.Prelude.{◌≡◌, ℕ, ◌≤◌, length, MatchOption, MatchResult};
 ghost use Rattle.session.specs.Room.{most, room};
 ghost use Rattle.session.specs.Sessions.{Passes};
 
@@ -12,20 +12,13 @@ use answerline::LONGEST;
 use feed::{Fed, KEPT};
 use layout::{Drivers, WORDS, Words};
 use rules::QUEUES;
+use std::io;
 use std::io::Read;
 
 // The most that is read at a time, and room for all answers to it.
 pub const PART: usize = 4096;
 
 pub const OUT: usize = PART * LONGEST;
-
-// What a turn left: how many bytes are held, whether the input has ended, and whether that was for a write that failed.
-#[derive(Clone, Copy)]
-struct Went {
-    held: usize,
-    ended: bool,
-    failed: bool,
-}
 
 // Takes all of standard input. A read that fails ends the input, and a write that fails ends the session.
 pub fn play(rt: &(impl Input + Print)) {
@@ -35,7 +28,7 @@ pub fn play(rt: &(impl Input + Print)) {
     let mut out = buffer();
     feed::begin(&mut words, &mut drivers);
     let mut input = rt.reader();
-    let went = take_all(
+    let taken = take_all(
         &mut input,
         rt,
         &mut words,
@@ -43,10 +36,9 @@ pub fn play(rt: &(impl Input + Print)) {
         &mut line,
         &mut out,
     );
-    if went.failed {
-        return;
+    if let Ok(held) = taken {
+        end(rt, &mut words, &mut drivers, &line, held, &mut out);
     }
-    end(rt, &mut words, &mut drivers, &line, went.held, &mut out);
 }
 
 fn buffer() -> [u8; OUT]
@@ -55,6 +47,7 @@ fn buffer() -> [u8; OUT]
     [0u8; OUT]
 }
 
+// Takes the input to its end, and gives how many bytes are held then.
 fn take_all(
     input: &mut impl Read,
     rt: &impl Print,
@@ -62,29 +55,22 @@ fn take_all(
     drivers: &mut Drivers,
     line: &mut [u8; KEPT],
     out: &mut [u8],
-) -> Went
+) -> io::Result<usize>
     requires { length out.old ≡ room }
-    ensures { Passes 0 line words drivers result.held }
+    ensures { MatchResult result (λ h. Passes 0 line words drivers h) (λ _. (h : ℕ) × Passes 0 line words drivers h) }
 {
     let mut held = 0usize;
     // A loop has to end, and nothing says that an input does: no run uses this number up.
-    let mut left = u64::MAX;
-    while 0 < left {
-        let went = turn(input, rt, words, drivers, line, held, out);
-        if went.ended {
-            return went;
+    for _ in 0..u64::MAX {
+        match turn(input, rt, words, drivers, line, held, out)? {
+            Some(n) => held = n,
+            None => return Ok(held),
         }
-        held = went.held;
-        left -= 1;
     }
-    Went {
-        held,
-        ended: true,
-        failed: false,
-    }
+    Ok(held)
 }
 
-// Reads what there is, and answers the lines that it ends.
+// Reads what there is, answers the lines that it ends, and gives how many bytes are held then: none where the input has ended.
 fn turn(
     input: &mut impl Read,
     rt: &impl Print,
@@ -93,27 +79,21 @@ fn turn(
     line: &mut [u8; KEPT],
     held: usize,
     out: &mut [u8],
-) -> Went
+) -> io::Result<Option<usize>>
     requires { length out.old ≡ room }
-    ensures { Passes held line words drivers result.held }
+    ensures { MatchResult result
+        (λ o. MatchOption o (Passes held line words drivers held) (λ h. Passes held line words drivers h))
+        (λ _. (h : ℕ) × Passes held line words drivers h) }
 {
     let mut part = [0u8; PART];
     let n = input.read(&mut part).unwrap_or(0);
     if n == 0 {
-        return Went {
-            held,
-            ended: true,
-            failed: false,
-        };
+        return Ok(None);
     }
     let fed = take(words, drivers, line, held, &part[..n], out);
     let written = fed.written;
-    let sent = rt.write_all(&out[..written]).is_ok();
-    Went {
-        held: fed.held,
-        ended: !sent,
-        failed: !sent,
-    }
+    rt.write_all(&out[..written])?;
+    Ok(Some(fed.held))
 }
 
 // Has a part taken: all of it, and there is room for the answers.

@@ -11,4 +11,4 @@ pub returns-then-held-eq0 : goal.returns-then-held-eq0
 returns-then-held-eq0 c = let a = c.args in ends_none a.line.now a.out.now (memory a.words.now a.drivers.now) (omega arith) c.if-held-eq0.true
 
 pub returns : goal.returns
-returns c = let a = c.args in ends_line a.line.now (omega arith) c.if-held-eq0.false c.least.ensures (omega arith) c.last.ensures
+returns c = let a = c.args in ends_line a.line.now (omega arith) c.if-held-eq0.false c.min.ensures (omega arith) c.last.ensures

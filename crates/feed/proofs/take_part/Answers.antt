@@ -6,7 +6,7 @@ use mathlib.Core.Path.{ap, ◌∙◌}
 use lib.ListN.{length}
 use Rattle.layout.specs.Carried.{memory}
 use Rattle.split.proofs.Laws.{first_end}
-use Rattle.consoleline.proofs.Laws.{rest_within}
+use Rattle.run.proofs.Laws.{payload}
 use Rattle.feed.specs.Input.{most_kept}
 use Rattle.feed.specs.Feeding.{joined_at}
 use Rattle.feed.proofs.Laws.{part_begun, part_ended}
@@ -22,7 +22,7 @@ pub returns : goal.returns
 returns c = let a = c.args in
     let p = c.requires in
     let s = a.part.now in
-    let rest = rest_within s c.lines-done.result.at in
+    let rest = payload c.lines-done.result.at s in
     part_ended s a.line.now p.0 p.1 (first_end 10 s c.piece-first.ensures) c.piece-first.ensures c.join-joined.ensures.value c.join-joined.ensures.line_after
     (omega arith) p.2 c.last-w.ensures c.lines-done.ensures
     (c.join-kept.ensures.value ∙ ap (λ (l : List ℕ). 0 + min (length l) (most_kept - 0)) rest)

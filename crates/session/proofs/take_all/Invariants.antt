@@ -3,8 +3,5 @@ use Rattle.layout.specs.Carried.{memory}
 use Rattle.session.specs.Sessions.{Passed}
 use Rattle.session.proofs.take_all.Given as goal
 
-abbrev pub invariant-loop-left : goal.invariant-loop-left
-invariant-loop-left g l = Passed 0 l.initial.line l.line (memory l.initial.words l.initial.drivers) (memory l.words l.drivers) l.held
-
-abbrev pub decreases-loop-left : goal.decreases-loop-left
-decreases-loop-left g l = l.left
+abbrev pub invariant-loop : goal.invariant-loop
+invariant-loop g l = Passed 0 l.initial.line l.line (memory l.initial.words l.initial.drivers) (memory l.words l.drivers) l.held
