@@ -20,7 +20,7 @@ use answerline::Said;
 use errno::Errno;
 use layout::{Drivers, Words};
 use linewords::Parsed;
-use mask::{Apid, Apqi};
+use mask::{Apid, Apqi, Apqn};
 use rules::{Answer, Id, Kind};
 
 // A line without its newline. One that holds a newline is bad text.
@@ -88,7 +88,7 @@ fn configure(words: &mut Words, drivers: &mut Drivers, text: &[u8]) -> Said
 fn make_move(words: &mut Words, drivers: &mut Drivers, adapter: Apid, domain: Apqi) -> Said
     ensures { Answers (granted (move adapter.0 domain.0)) words drivers result }
 {
-    Said::Did(bind::move_queue(words, drivers, adapter, domain))
+    Said::Did(bind::move_queue(words, drivers, Apqn { adapter, domain }))
 }
 
 // A sweep with the full budget.
