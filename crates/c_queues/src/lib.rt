@@ -23,7 +23,7 @@ use mask::{Apid, Apqi, Apqn};
 pub extern "C" fn zk_raw_move(words: &Words, drivers: &mut Drivers, apid: u8, apqi: u8) -> u8
     ensures { MoveServes apid apqi words.entry drivers result }
 {
-    request::make_move(words, drivers, Apid(apid), Apqi(apqi))
+    request::make_move(words, drivers, queue(apid, apqi))
 }
 
 // The moves used; more is then 1 where any remain, and 0 where none does.
@@ -74,7 +74,8 @@ pub extern "C" fn zk_raw_usable(
 ) -> u8
     ensures { result ≡ bit (usable_with (id_in id.entry) (state words.entry drivers.entry) (queue_with apid apqi)) }
 {
-    shown::flag(guest::usable(words, drivers, fields::id_of(id), Apid(apid), Apqi(apqi)))
+    let id = fields::id_of(id);
+    u8::from(guest::usable(words, drivers, id, queue(apid, apqi)))
 }
 
 fn queue(apid: u8, apqi: u8) -> Apqn

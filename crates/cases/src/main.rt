@@ -5,7 +5,7 @@
 ghost use Rattle.std.specs.Prelude.{◌≤◌, length, IfOk};
 
 use layout::{Drivers, SLOTS, WORDS, Words};
-use mask::{Apid, Apqi, Mask};
+use mask::{Apid, Apqi, Apqn, Mask};
 use rules::{Answer, Configuration, Driver, Id, Kind, Matrix, Moved, QUEUES};
 use std::io;
 use std::io::Read;
@@ -127,8 +127,7 @@ fn configuration(s: &[u8]) -> Configuration {
 }
 
 fn bits(s: &[u8], k: usize) -> Mask {
-    let r = masktext::parse(word(s, k), Mask::empty());
-    r.mask
+    masktext::parse(word(s, k), Mask::empty()).unwrap_or(Mask::empty())
 }
 
 // ---- queues
@@ -141,11 +140,13 @@ fn queues(
     s: &[u8],
 ) -> io::Result<()> {
     let n = value(s, 1);
-    let apid = Apid((n % 256) as u8);
-    let apqi = Apqi(byte(s, 2));
+    let queue = Apqn {
+        adapter: Apid(byte(s, 1)),
+        domain: Apqi(byte(s, 2)),
+    };
     match letter {
-        b'm' => moved(rt, bind::move_queue(words, drivers, apid, apqi)),
-        b't' => target(rt, target::target(words, apid, apqi)),
+        b'm' => moved(rt, bind::move_queue(words, drivers, queue)),
+        b't' => target(rt, target::target(words, queue)),
         b's' => sweep(rt, sweep::sweep(words, drivers, (n % 4294967296) as u32)),
         _ => number(rt, due::remaining(words, drivers) as u64),
     }
@@ -166,7 +167,7 @@ fn target(rt: &impl Print, d: Driver) -> io::Result<()> {
     )
 }
 
-// The first four in the order of `rules::moved_number`.
+// The first four in the order of `moved_number`.
 fn named(rt: &impl Print, k: usize) -> io::Result<()> {
     print::text(rt, b": ")?;
     print::text(
@@ -196,10 +197,13 @@ fn shows(
     let matrix = matrix(s);
     match letter {
         b'i' => number(rt, lookup::find(words, id).unwrap_or(SLOTS) as u64),
-        b'y' => yes(
-            rt,
-            guest::usable(words, drivers, id, Apid(byte(s, 2)), Apqi(byte(s, 3))),
-        ),
+        b'y' => {
+            let queue = Apqn {
+                adapter: Apid(byte(s, 2)),
+                domain: Apqi(byte(s, 3)),
+            };
+            yes(rt, guest::usable(words, drivers, id, queue))
+        }
         b'k' => masks(rt, words, drivers, id, matrix),
         b'j' => lines(rt, words, drivers, id, matrix),
         _ => list(rt, words, drivers, id, matrix, s),

@@ -22,7 +22,7 @@ use encoding::Command;
 use errno::Errno;
 use layout::{Drivers, Words};
 use linewords::Request;
-use mask::{Apid, Apqi};
+use mask::Apqn;
 use rules::Answer;
 
 // A line without its newline. One that holds a newline is bad text.
@@ -47,7 +47,7 @@ pub fn carry_out(words: &mut Words, drivers: &mut Drivers, read: Result<Request,
         Ok(request) => match request {
             Request::Command(c) => command(words, drivers, c),
             Request::Config(text) => configure(words, drivers, text),
-            Request::Move(adapter, domain) => make_move(words, drivers, adapter, domain),
+            Request::Move(queue) => make_move(words, drivers, queue),
             Request::Sweep => make_sweep(words, drivers),
         },
         Err(e) => Said::Refused(e),
@@ -69,10 +69,10 @@ fn configure(words: &mut Words, drivers: &mut Drivers, text: &[u8]) -> Said
     }
 }
 
-fn make_move(words: &mut Words, drivers: &mut Drivers, adapter: Apid, domain: Apqi) -> Said
-    ensures { Answers (granted (move adapter.0 domain.0)) words drivers result }
+fn make_move(words: &mut Words, drivers: &mut Drivers, queue: Apqn) -> Said
+    ensures { Answers (granted (move queue.adapter.0 queue.domain.0)) words drivers result }
 {
-    Said::Did(bind::move_queue(words, drivers, adapter, domain))
+    Said::Did(bind::move_queue(words, drivers, queue))
 }
 
 // A sweep with the full budget.

@@ -43,10 +43,10 @@ fn remaining_row(words: &Words, drivers: &Drivers, adapter: Apid) -> u32
 {
     let row = TargetRow::of(words, adapter);
     let mut sum = 0;
-    for n in 0..=255u8 {
+    for n in 0..256usize {
         let queue = Apqn {
             adapter,
-            domain: Apqi(n),
+            domain: Apqi(n as u8),
         };
         sum += due_by(drivers::driver(drivers, queue), row.target(queue.domain));
     }

@@ -10,14 +10,14 @@ ghost use Rattle.layout.specs.Lent.{devices};
 ghost use Rattle.holder.specs.Holder.{holder_of};
 
 use layout::{SLOTS, Words};
-use mask::{Apid, Apqi, Apqn};
+use mask::Apqn;
 
 // The slot of the device that has a queue, open or not.
-pub fn holder(words: &Words, adapter: Apid, domain: Apqi) -> Option<usize>
-    ensures { result ≡ found (holder_of (devices words.entry) (apqn adapter domain)) }
+pub fn holder(words: &Words, queue: Apqn) -> Option<usize>
+    ensures { result ≡ found (holder_of (devices words.entry) (apqn queue.adapter queue.domain)) }
 {
     for slot in 0..SLOTS {
-        if holds(words, slot, adapter, domain) {
+        if holds(words, slot, queue) {
             return Some(slot);
         }
     }
@@ -25,9 +25,8 @@ pub fn holder(words: &Words, adapter: Apid, domain: Apqi) -> Option<usize>
 }
 
 // Whether the device at a slot has a queue.
-fn holds(words: &Words, slot: usize, adapter: Apid, domain: Apqi) -> bool
-    ensures { result ≡ product (devices words.entry slot) (apqn adapter domain) }
+fn holds(words: &Words, slot: usize, queue: Apqn) -> bool
+    ensures { result ≡ product (devices words.entry slot) (apqn queue.adapter queue.domain) }
 {
-    let assigned = products::assigned(words, slot);
-    assigned.has(Apqn { adapter, domain })
+    products::assigned(words, slot).has(queue)
 }

@@ -18,7 +18,7 @@ use Rattle.linewords.specs.Requests.{for_number, for_config}
 unfoldable pub asked : Result Request Errno → Outcome Encoding.Request
 asked (Ok (Command c)) = granted (Encoding.command (meant c))
 asked (Ok (Config text)) = for_config (cut 32 text.now)
-asked (Ok (Move a d)) = granted (Encoding.move a.0 d.0)
+asked (Ok (Move q)) = granted (Encoding.move q.adapter.0 q.domain.0)
 asked (Ok Sweep) = granted (Encoding.sweep most_moves)
 asked (Err e) = refused e
 

@@ -63,10 +63,10 @@ fn kept_adapter(drivers: &Drivers, adapter: Apid, mask: Mask, domains: Mask) -> 
 fn row_passed(drivers: &Drivers, adapter: Apid, domains: Mask) -> bool
     ensures { result ≡ not (held_back drivers.now (bits domains) adapter.0) }
 {
-    for n in 0..=255u8 {
+    for n in 0..256usize {
         let queue = Apqn {
             adapter,
-            domain: Apqi(n),
+            domain: Apqi(n as u8),
         };
         if missing(drivers, domains, queue) {
             return false;

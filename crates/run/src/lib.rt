@@ -7,7 +7,7 @@ ghost use Rattle.std.specs.Prelude.{◌≤◌, length, get_or};
 ghost use Rattle.run.specs.Running.{StepsOnce, CarriesOut, Runs};
 
 use layout::{Drivers, Words};
-use mask::{Apid, Apqi};
+use mask::{Apid, Apqi, Apqn};
 
 // Makes the lent memory a fresh record, carries out the requests, and writes a byte of answer for each. It answers how many
 // it carried out: those for which there is room for an answer.
@@ -22,7 +22,7 @@ pub fn run(
     ensures { Runs adapter domain steps.entry answers.entry answers.exit words.exit drivers.exit result }
 {
     // Limits of a byte are not refused.
-    let _ = setup::fresh(words, drivers, adapter.0 as u64, domain.0 as u64);
+    let _ = setup::fresh(words, drivers, u64::from(adapter.0), u64::from(domain.0));
     carry_out(words, drivers, steps, answers)
 }
 
@@ -60,7 +60,11 @@ fn step(words: &mut Words, drivers: &mut Drivers, bytes: &[u8]) -> u8
     if op == 10 {
         return request::make_sweep(words, drivers, fields::number_of(&bytes[2..]));
     }
-    request::make_move(words, drivers, Apid(bytes[2]), Apqi(bytes[3]))
+    let queue = Apqn {
+        adapter: Apid(bytes[2]),
+        domain: Apqi(bytes[3]),
+    };
+    request::make_move(words, drivers, queue)
 }
 
 // Carries out a command, and gives its answer as a byte.

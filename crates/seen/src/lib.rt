@@ -10,7 +10,7 @@ ghost use Rattle.seen.specs.Seen.{DeviceShown, HolderShown};
 use errno::Errno;
 use fields::ID_BYTES;
 use layout::Words;
-use mask::{Apid, Apqi};
+use mask::Apqn;
 
 // Leaves the id of the device in a slot, and 1 or 0 for whether it is open.
 pub fn device(words: &Words, slot: usize, id: &mut [u8; ID_BYTES], mark: &mut u8) -> u8
@@ -20,15 +20,15 @@ pub fn device(words: &Words, slot: usize, id: &mut [u8; ID_BYTES], mark: &mut u8
         return u8::from(Errno::Enoent);
     }
     *id = idbytes::to_bytes(record::id(words, slot));
-    *mark = shown::flag(record::is_open(words, slot));
+    *mark = u8::from(record::is_open(words, slot));
     0
 }
 
 // Leaves the id of the device that has a queue.
-pub fn holder(words: &Words, adapter: Apid, domain: Apqi, id: &mut [u8; ID_BYTES]) -> u8
-    ensures { HolderShown (devices words.entry) (apqn adapter domain) id.entry id.exit result }
+pub fn holder(words: &Words, queue: Apqn, id: &mut [u8; ID_BYTES]) -> u8
+    ensures { HolderShown (devices words.entry) (apqn queue.adapter queue.domain) id.entry id.exit result }
 {
-    match holder::holder(words, adapter, domain) {
+    match holder::holder(words, queue) {
         None => u8::from(Errno::Enoent),
         Some(slot) => {
             *id = idbytes::to_bytes(record::id(words, slot));

@@ -18,7 +18,7 @@ pub fn sweep(words: &Words, drivers: &mut Drivers, budget: u32, more: &mut u8) -
     ensures { SweepShown (Sweeps budget words.entry drivers.entry drivers.exit) more.exit result }
 {
     let r = sweep::sweep(words, drivers, budget);
-    *more = flag(r.more);
+    *more = u8::from(r.more);
     r.used
 }
 
@@ -44,10 +44,4 @@ pub fn list(
         }
         Err(e) => u8::from(e),
     }
-}
-
-pub fn flag(b: bool) -> u8
-    ensures { result ≡ bit b }
-{
-    u8::from(b)
 }

@@ -36,10 +36,10 @@ fn unbind_row(drivers: &mut Drivers, was: Product, is: Product, adapter: Apid)
 fn unbind_domains(drivers: &mut Drivers, adapter: Apid, domains: Mask)
     ensures { drivers.new ≡ unbind_row drivers.old (with_domain domains) adapter.0 256 }
 {
-    for n in 0..=255u8 {
+    for n in 0..256usize {
         let queue = Apqn {
             adapter,
-            domain: Apqi(n),
+            domain: Apqi(n as u8),
         };
         unbind_one(drivers, domains, queue);
     }

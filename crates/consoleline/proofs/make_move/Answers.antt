@@ -7,4 +7,4 @@ use Rattle.consoleline.proofs.make_move.Goals as goal
 pub returns : goal.returns
 unfolding said_line
 returns c = let a = c.args in
-    answered_move a.adapter.0 a.domain.0 a.words.now a.drivers.now _ c.move_queue.result (omega (arith, c)) (omega (arith, c)) c.move_queue.ensures
+    answered_move a.queue.adapter.0 a.queue.domain.0 a.words.now a.drivers.now _ c.move_queue.result (omega (arith, c)) (omega (arith, c)) c.move_queue.ensures

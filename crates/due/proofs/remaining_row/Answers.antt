@@ -37,9 +37,8 @@ overflow_add-sum c =
 pub loop-n-preserved : goal.loop-n-preserved
 loop-n-preserved c = next (goal.at.loop-n-preserved c).After-due_by-sum
 
-pub returns-2 : goal.returns-2
-returns-2 c =
+pub returns : goal.returns
+returns c =
     let a = c.args in
-    let last : c.loop-n.n + 1 ≡ 256 = omega arith in
-    next (goal.at.returns-2 c).After-due_by-sum
-    ∙ ap (λ (i : ℕ). sum_from i (a.adapter.0 * 256) (due_at (state_in a.words.now a.drivers.now))) last
+    let last : c.loop-n.n ≡ 256 = omega arith in
+    c.loop-n.invariant ∙ ap (λ (i : ℕ). sum_from i (a.adapter.0 * 256) (due_at (state_in a.words.now a.drivers.now))) last

@@ -13,16 +13,16 @@ pub returns-then-holds : goal.returns-then-holds
 returns-then-holds c =
     let a = c.args in
     let l = c.loop-slot in
-    found_at (omega arith) (l.invariant ∙ turn_here 8 l.slot (here a.adapter a.domain a.words.now) (omega arith) (sym c.holds.ensures ∙ c.if-holds.true))
+    found_at (omega arith) (l.invariant ∙ turn_here 8 l.slot (here a.queue.adapter a.queue.domain a.words.now) (omega arith) (sym c.holds.ensures ∙ c.if-holds.true))
 
 pub loop-slot-preserved : goal.loop-slot-preserved
 loop-slot-preserved c =
     let a = c.args in
     let l = c.loop-slot in
-    l.invariant ∙ turn_next 8 l.slot (here a.adapter a.domain a.words.now) (omega arith) (sym c.holds.ensures ∙ c.if-holds.false)
+    l.invariant ∙ turn_next 8 l.slot (here a.queue.adapter a.queue.domain a.words.now) (omega arith) (sym c.holds.ensures ∙ c.if-holds.false)
 
 pub returns : goal.returns
 returns c =
     let a = c.args in
     let l = c.loop-slot in
-    found_none (l.invariant ∙ turn_end 8 l.slot (here a.adapter a.domain a.words.now) (omega arith)) (omega arith)
+    found_none (l.invariant ∙ turn_end 8 l.slot (here a.queue.adapter a.queue.domain a.words.now) (omega arith)) (omega arith)

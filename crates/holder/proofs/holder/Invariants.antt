@@ -16,4 +16,4 @@ abbrev pub here : Apid → Apqi → List ℕ → Bits
 here a d ws j = product (device_in ws j) (apqn a d)
 
 abbrev pub invariant-loop-slot : goal.invariant-loop-slot
-invariant-loop-slot l = holder_of (device_in l.words) (apqn l.adapter l.domain) ≡ first_from (8 - l.slot) l.slot (here l.adapter l.domain l.words)
+invariant-loop-slot l = holder_of (device_in l.words) (apqn l.queue.adapter l.queue.domain) ≡ first_from (8 - l.slot) l.slot (here l.queue.adapter l.queue.domain l.words)

@@ -1,8 +1,7 @@
 -- `row_passed` meets its contract.
-use Prim.Native.Nat.{ℕ, ◌+◌, ◌<◌}
 use native.Mathlib.Omega.{arith}
-use mathlib.Core.Path.{◌≡◌, sym, ap, ◌∙◌}
-use mathlib.Core.Bool.{false, not}
+use mathlib.Core.Path.{sym, ap, ◌∙◌}
+use mathlib.Core.Bool.{not}
 use borrow.Author.Count.{below_more}
 use Rattle.mask.specs.Bits.{bits}
 use Rattle.mask.proofs.Laws.{some_intro, none_some}
@@ -16,10 +15,11 @@ returns-then-missing c =
     ap not (sym (some_intro 256 (missing a.drivers.now (bits a.domains) a.adapter.0) c.loop-n.n (omega arith)
     (sym c.missing.ensures ∙ c.if-missing.true)))
 
-pub returns-else-missing : goal.returns-else-missing
+pub loop-n-preserved : goal.loop-n-preserved
+loop-n-preserved c = below_more _ _ c.loop-n.invariant (sym c.missing.ensures ∙ c.if-missing.false)
+
+pub returns : goal.returns
 unfolding held_back
-returns-else-missing c =
+returns c =
     let a = c.args in
-    let wanted = missing a.drivers.now (bits a.domains) a.adapter.0 in
-    let all : (k : ℕ) → k < c.loop-n.n + 1 → wanted k ≡ false = below_more _ _ c.loop-n.invariant (sym c.missing.ensures ∙ c.if-missing.false) in
-    ap not (sym (none_some 256 wanted (λ k h. all k (omega arith))))
+    ap not (sym (none_some 256 (missing a.drivers.now (bits a.domains) a.adapter.0) (λ k h. c.loop-n.invariant k (omega arith))))

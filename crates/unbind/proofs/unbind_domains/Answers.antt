@@ -8,6 +8,3 @@ loop-n-init c = search (row_nothing)
 
 pub loop-n-preserved : goal.loop-n-preserved
 loop-n-preserved c = row_next _ _ _ _ _ c.loop-n.invariant c.unbind_one.ensures (omega arith)
-
-pub returns-2 : goal.returns-2
-returns-2 c = row_next _ _ _ c.loop-n.n _ c.loop-n.invariant c.unbind_one.ensures (omega arith)
