@@ -2,12 +2,13 @@
 use mathlib.Core.Bool.{true≢false}
 use mathlib.Core.Path.{refl, sym, ap, ◌∙◌}
 use Rattle.shown.specs.Shown.{bit}
+use Rattle.shown.proofs.Laws.{flag_is}
 use Rattle.seen.proofs.device.Goals as goal
 
 pub returns-then-not-present : goal.returns-then-not-present
 returns-then-not-present c =
     let none = sym c.present.ensures ∙ c.if-not-present.true in
-    record { there = λ e. absurd (true≢false (sym e ∙ none)); absent = λ e. (c.number.ensures, refl, refl) }
+    record { there = λ e. absurd (true≢false (sym e ∙ none)); absent = λ e. (c.from.ensures, refl, refl) }
 
 pub returns : goal.returns
 returns c =
@@ -15,6 +16,6 @@ returns c =
     let i = f in
     let one = sym i.present.ensures ∙ i.if-not-present.false in
     record {
-      there = λ e. (refl, rw i.id.ensures at i.to_bytes.ensures, c.flag.ensures ∙ ap bit f.is_open.ensures);
+      there = λ e. (refl, rw i.id.ensures at i.to_bytes.ensures, c.from.ensures ∙ flag_is _ ∙ ap bit f.is_open.ensures);
       absent = λ e. absurd (true≢false (sym one ∙ e));
     }

@@ -6,7 +6,7 @@ use Rattle.seen.proofs.holder.Goals as goal
 pub returns-in-None : goal.returns-in-None
 returns-in-None c =
     let none = found_nothing c.in-None.ensures in
-    record { held = λ l. absurd (omega arith); free = λ l. (c.number.ensures, refl) }
+    record { held = λ l. absurd (omega arith); free = λ l. (c.from.ensures, refl) }
 
 pub returns-in-Some : goal.returns-in-Some
 returns-in-Some c =
