@@ -1,6 +1,6 @@
 -- Laws of the text of a mask: its items, its hex digits.
 -- Assumes nothing.
-use Rattle.std.proofs.Common.{◌≡◌, ℕ, zero, suc, ◌+◌, ◌-◌, ◌/◌, ◌%◌, ◌<◌, ◌≤◌, refl, sym, ◌∙◌, arith, add-one, true, ◌&&◌, ◌||◌, List, [], ◌∷◌, ◌++◌, map, length, get_or, take, drop, drop-cons, drop_of_length-le}
+use Rattle.std.proofs.Common.{◌≡◌, ℕ, zero, suc, ◌+◌, ◌-◌, ◌/◌, ◌%◌, ◌<◌, refl, sym, ◌∙◌, arith, add-one, ◌&&◌, ◌||◌, List, [], ◌∷◌, ◌++◌, map, length, get_or, take, drop, drop-cons}
 use Rattle.std.proofs.lemmas.Result.{err_from_is_err_and}
 use Rattle.std.specs.List.{slice_split, onto_first}
 use Rattle.std.specs.Result.{IsErrAnd}
@@ -71,10 +71,6 @@ items_bad m k (x ∷ ps) (suc n) p {e} h q g b = step (λ j r. items_bad j k ps 
 pub all_hex_turn : (s : List ℕ) (i : ℕ) → i < length s → all_hex (drop i s) ≡ ltb (digit_of (get_or s i 0)) 16 && all_hex (drop (i + 1) s)
 unfolding all_hex
 all_hex_turn s i h = rw (add-one, drop-cons s i 0 h)
-
-pub all_hex_end : (s : List ℕ) (i : ℕ) → length s ≤ i → all_hex (drop i s) ≡ true
-unfolding all_hex
-all_hex_end s i h = rw (drop_of_length-le s {i = i} h)
 
 -- no numbers have no bits
 pub bits_none : (w : ℕ) → bit_at w [] ≡ no_bits
