@@ -7,7 +7,7 @@ ghost use Rattle.std.specs.Prelude.{◌≤◌, length, IfOk};
 use guest::Shown;
 use layout::{Drivers, WORDS, Words};
 use listing::Listed;
-use mask::{Apid, Apqi, Mask};
+use mask::{Apid, Apqi, Apqn, Mask};
 use rules::{Answer, Configuration, Driver, Id, Kind, Matrix, Moved, QUEUES};
 use std::io;
 use std::io::Read;
@@ -143,11 +143,13 @@ fn queues(
     s: &[u8],
 ) -> io::Result<()> {
     let n = value(s, 1);
-    let apid = Apid((n % 256) as u8);
-    let apqi = Apqi(byte(s, 2));
+    let queue = Apqn {
+        adapter: Apid((n % 256) as u8),
+        domain: Apqi(byte(s, 2)),
+    };
     match letter {
-        b'm' => moved(rt, bind::move_queue(words, drivers, apid, apqi)),
-        b't' => target(rt, target::target(words, apid, apqi)),
+        b'm' => moved(rt, bind::move_queue(words, drivers, queue)),
+        b't' => target(rt, target::target(words, queue)),
         b's' => sweep(rt, sweep::sweep(words, drivers, (n % 4294967296) as u32)),
         _ => number(rt, due::remaining(words, drivers) as u64),
     }
