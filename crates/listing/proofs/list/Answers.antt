@@ -29,7 +29,7 @@ pub returns : goal.returns
 returns c =
     let a = c.args in
     let some : Some c.in_ok-slot.slot ≡ c.find.result = grind arith in
-    let queues = ap queues_of c.of.ensures ∙ matrix_at a.words.now a.drivers.now a.id (some ∙ c.find.ensures) c.masks_at-m.ensures in
+    let queues = ap queues_of c.from.ensures ∙ matrix_at a.words.now a.drivers.now a.id (some ∙ c.find.ensures) c.masks_at-m.ensures in
     record {
       answer = errno_none a.words.now a.drivers.now a.id (some ∙ c.find.ensures) (length a.buf.now) (omega arith);
       accepted = rw queues at c.write.ensures;
