@@ -15,7 +15,7 @@ unfolding number_of
 returns-in-None c =
     let a = c.args in
     record {
-      answer = c.number.ensures ∙ sym (cond_past (slot_of a.id (devices a.words)) slots 0 2 (found_nothing c.in-None.ensures));
+      answer = c.from.ensures ∙ sym (cond_past (slot_of a.id (devices a.words)) slots 0 2 (found_nothing c.in-None.ensures));
       accepted = λ e. absurd (omega arith);
       refused = λ e. (refl, refl);
     }

@@ -6,4 +6,4 @@ pub returns-in-Ok : goal.returns-in-Ok
 returns-in-Ok c = record { shown = Ok c.in-Ok.m; kept = c.in-Ok.ensures; answer = refl; accepted = c.put_masks.ensures; refused = λ e. absurd (e refl) }
 
 pub returns-in-Err : goal.returns-in-Err
-returns-in-Err c = record { shown = Err c.in-Err.e; kept = c.in-Err.ensures; answer = c.number.ensures; accepted = tt; refused = λ e. refl }
+returns-in-Err c = record { shown = Err c.in-Err.e; kept = c.in-Err.ensures; answer = c.from.ensures; accepted = tt; refused = λ e. refl }
