@@ -30,7 +30,7 @@ sweep_bytes ws zero k b qs = qs
 sweep_bytes ws (suc n) k b qs =
     sweep_bytes ws n (suc k) (b - min b (due_at (state_in ws qs) k)) (moves_bytes ws (min b (due_at (state_in ws qs) k)) k qs)
 
--- a sweep of the n queues from k on with b moves to make: the bytes that it leaves, and the moves left, or none where more were due than b
+-- a sweep of the n queues from k on with b moves: the bytes that it leaves, and the moves left, or none where b falls short
 pub record PartSweeping (b n k : ℕ) (ws qs rs : List ℕ) (r : Option ℕ) : Type 0 where
   pub drivers : rs ≡ sweep_bytes ws n k b qs
   pub left : r ≡ left_of b (sum_from n k (due_at (state_in ws qs)))
