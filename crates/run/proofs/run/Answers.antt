@@ -6,4 +6,4 @@ use Rattle.run.proofs.run.Goals as goal
 pub returns : goal.returns
 returns c =
     let s = c in
-    runs c.fresh.ensures c.carry_out.ensures (omega (arith, s)) (omega (arith, s))
+    runs (rw (c.from.ensures, c.from-2.ensures) at c.fresh.ensures) c.carry_out.ensures (omega (arith, s)) (omega (arith, s))
