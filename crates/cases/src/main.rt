@@ -2,13 +2,10 @@
 // with a model in Python that is written from the rules (docs/RULES.md) and shares no code with the library.
 #![tactic(auto)]
 
-ghost use Rattle.std.specs.Prelude.{◌≤◌, length, IfOk};
-
 use layout::{Drivers, SLOTS, WORDS, Words};
 use mask::{Apid, Apqi, Apqn, Mask};
 use rules::{Answer, Configuration, Driver, Id, Kind, Matrix, Moved, QUEUES};
 use std::io;
-use std::io::Read;
 
 // A row is two letters, for a group of functions and for one of them, and the words that are printed before its answer.
 // The arguments are among these words. A row of the letters ## only prints its words. A semicolon ends a row.
@@ -16,23 +13,8 @@ fn main(rt: HostRuntime) -> io::Result<()> {
     let mut words = [0u64; WORDS];
     let mut drivers = [0u8; QUEUES];
     let mut rows = [0u8; 8192];
-    let got = read_full(&mut rt.reader(), &mut rows)?;
+    let got = readfull::read_full(&mut rt.reader(), &mut rows)?;
     each(&rt, &mut words, &mut drivers, &rows[..got])
-}
-
-// Reads until the buffer is full or the input ends. Answers how many bytes there are.
-fn read_full(input: &mut impl Read, buf: &mut [u8]) -> io::Result<usize>
-    ensures { IfOk result (λ n. n ≤ length buf.new) }
-{
-    let mut done = 0;
-    while done < buf.len() {
-        let n = input.read(&mut buf[done..])?;
-        if n == 0 {
-            break;
-        }
-        done += n;
-    }
-    Ok(done)
 }
 
 fn each(rt: &impl Print, words: &mut Words, drivers: &mut Drivers, rows: &[u8]) -> io::Result<()> {
@@ -148,7 +130,7 @@ fn queues(
         b'm' => moved(rt, bind::move_queue(words, drivers, queue)),
         b't' => target(rt, target::target(words, queue)),
         b's' => sweep(rt, sweep::sweep(words, drivers, (n % 4294967296) as u32)),
-        _ => number(rt, due::remaining(words, drivers) as u64),
+        _ => number(rt, u64::from(due::remaining(words, drivers))),
     }
 }
 
@@ -179,7 +161,7 @@ fn named(rt: &impl Print, k: usize) -> io::Result<()> {
 }
 
 fn sweep(rt: &impl Print, r: sweep::Swept) -> io::Result<()> {
-    number(rt, r.used as u64)?;
+    number(rt, u64::from(r.used))?;
     print::text(rt, b"moves remain")?;
     yes(rt, r.more)
 }
@@ -243,7 +225,7 @@ fn lines(
     matrix: Matrix,
 ) -> io::Result<()> {
     match guest::masks(words, drivers, id, matrix) {
-        Ok(m) => number(rt, listing::lines(m) as u64),
+        Ok(m) => number(rt, u64::from(listing::lines(m))),
         Err(_) => number(rt, 0),
     }
 }
@@ -322,20 +304,15 @@ fn letter(s: &[u8]) -> u8 {
 
 // A number in decimal. One that is too large counts as the largest.
 fn decimal(s: &[u8]) -> u64 {
-    let mut n = 0u64;
-    let mut i = 0usize;
-    while i < s.len() {
-        n = longer(n, s[i]);
-        i += 1;
-    }
-    n
+    s.iter().fold(0, |n, c| longer(n, *c))
 }
 
 fn longer(n: u64, c: u8) -> u64 {
     if n < 1844674407370955161 {
-        return n * 10 + (c % 16 % 10) as u64;
+        n * 10 + u64::from(c % 16 % 10)
+    } else {
+        u64::MAX
     }
-    18446744073709551615
 }
 
 fn word(s: &[u8], k: usize) -> &[u8] {

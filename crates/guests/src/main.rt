@@ -80,7 +80,7 @@ fn step(
 ) -> io::Result<()> {
     let id = Id {
         hi: 0,
-        lo: (who % 16) as u64,
+        lo: u64::from(who % 16),
     };
     match what {
         b'm' => list(rt, words, drivers, id),
@@ -134,7 +134,7 @@ fn answer(rt: &impl Print, a: Answer) -> io::Result<()> {
 
 fn moves(rt: &impl Print, r: Swept) -> io::Result<()> {
     print::text(rt, b": ")?;
-    print::decimal(rt, r.used as u64)?;
+    print::decimal(rt, u64::from(r.used))?;
     print::text(rt, b" moves\n")?;
     Ok(())
 }

@@ -2,13 +2,10 @@
 // before and after one more sweep. The list and the expected output are made by tests/lists.py.
 #![tactic(auto)]
 
-ghost use Rattle.std.specs.Prelude.{◌≤◌, length, IfOk};
-
 use layout::{Drivers, WORDS, Words};
 use mask::{Apid, Apqi};
 use rules::{Id, Matrix, QUEUES};
 use std::io;
-use std::io::Read;
 
 fn main(rt: HostRuntime) -> io::Result<()> {
     let mut words = [0u64; WORDS];
@@ -16,14 +13,14 @@ fn main(rt: HostRuntime) -> io::Result<()> {
     list(&rt, &mut words, &mut drivers)?;
     left(&rt, &words, &drivers)?;
     let r = sweep::sweep(&words, &mut drivers, sweep::MOST_MOVES);
-    print::number(&rt, b"sweep ", r.used as u64)?;
+    print::number(&rt, b"sweep ", u64::from(r.used))?;
     left(&rt, &words, &drivers)
 }
 
 fn list(rt: &(impl Input + Print), words: &mut Words, drivers: &mut Drivers) -> io::Result<()> {
     let mut steps = [0u8; 32768];
     let mut answers = [255u8; 640];
-    let got = read_full(&mut rt.reader(), &mut steps)?;
+    let got = readfull::read_full(&mut rt.reader(), &mut steps)?;
     let n = run::run(
         words,
         drivers,
@@ -36,39 +33,17 @@ fn list(rt: &(impl Input + Print), words: &mut Words, drivers: &mut Drivers) -> 
     print_answers(rt, answers, n)
 }
 
-// Reads until the buffer is full or the input ends. Answers how many bytes there are.
-fn read_full(input: &mut impl Read, buf: &mut [u8]) -> io::Result<usize>
-    ensures { IfOk result (λ n. n ≤ length buf.new) }
-{
-    let mut done = 0;
-    while done < buf.len() {
-        let n = input.read(&mut buf[done..])?;
-        if n == 0 {
-            break;
-        }
-        done += n;
-    }
-    Ok(done)
-}
-
 // The first n answers.
 fn print_answers(rt: &impl Print, answers: [u8; 640], n: usize) -> io::Result<()> {
-    for i in 0..640usize {
-        if i < n {
-            one(rt, answers[i])?;
-        }
+    for answer in answers.iter().take(n) {
+        print::number(rt, b"", u64::from(*answer))?;
     }
-    Ok(())
-}
-
-fn one(rt: &impl Print, answer: u8) -> io::Result<()> {
-    print::number(rt, b"", answer as u64)?;
     Ok(())
 }
 
 // The moves remaining, and the matrices of the devices.
 fn left(rt: &impl Print, words: &Words, drivers: &Drivers) -> io::Result<()> {
-    print::number(rt, b"remaining ", due::remaining(words, drivers) as u64)?;
+    print::number(rt, b"remaining ", u64::from(due::remaining(words, drivers)))?;
     for n in 1..10u64 {
         device(rt, words, drivers, n)?;
     }

@@ -1,6 +1,0 @@
--- `decimal` is safe and ends.
-use Rattle.std.proofs.Common.{length, ◌-◌}
-use Rattle.cases.proofs.decimal.Given as goal
-
-abbrev pub decreases-loop-i : goal.decreases-loop-i
-decreases-loop-i l = length l.s - l.i
