@@ -23,8 +23,3 @@ row_at f k (suc n) zero h = ap f (sym (add-zero k))
 row_at f k (suc n) (suc j) h =
     let next : suc k + j ≡ k + suc j = omega arith in
     row_at f (suc k) n j (omega arith) ∙ ap f next
-
--- a list that has the right number at each place
-pub same_row : (f : ℕ → ℕ) (xs : List ℕ) (k n : ℕ) → length xs ≡ n → ((j : ℕ) → j < n → get_or xs j 0 ≡ f (k + j)) → xs ≡ row f k n
-same_row f xs k n l h =
-    ext_get_or 0 xs (row f k n) (l ∙ sym (row_long f k n)) (λ j hj. h j (omega arith) ∙ sym (row_at f k n j (omega arith)))

@@ -16,11 +16,6 @@ use Rattle.product.specs.declared.Product.{Product}
 use Rattle.product.specs.Meet.{queues_of, Row}
 use Rattle.unbind.specs.Gone.{gone, with_domain, unbind_row}
 
--- a queue goes by a test of its domain
-pub by_test : (qs : List ℕ) (m : Mask) (a d : ℕ) (x : Bool) → d < 256 → x ≡ bits m d
-    → cond x (set qs (a * 256 + d) 0) qs ≡ unbind_one qs (with_domain m) (a * 256 + d)
-by_test qs m a d x h p = ap (λ (b : Bool). cond b (set qs (a * 256 + d) 0) qs) (p ∙ ap (bits m) (sym (queue_apqi a d h)))
-
 module _ (qs : List ℕ) (away : Bits) (a : ℕ) where
   -- no queue of an adapter, and one more
   pub row_nothing : unbind_row qs away a 0 ≡ qs
