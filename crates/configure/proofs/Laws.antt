@@ -2,15 +2,15 @@
 -- Assumes nothing.
 use Rattle.std.proofs.Common.{Ok, Err}
 use Prim.Native.Nat.{ℕ}
-use mathlib.Core.Bool.{Bool, true, false, cond, not, ◌&&◌, ◌||◌}
+use mathlib.Core.Bool.{Bool, true, false, cond, not, ◌&&◌}
 use mathlib.Core.List.{List}
-use mathlib.Core.Path.{◌≡◌, sym, ap, ap₂, ◌∙◌}
+use mathlib.Core.Path.{◌≡◌, sym, ap, ap₂}
 use denote.Laws.{Is}
 use mir.Val.{Val}
 use lib.ListN.{length}
 use Rattle.errno.specs.Outcome.{granted, refused}
 use Rattle.errno.specs.declared.Errno.TheVariants.{Enodev}
-use Rattle.mask.specs.Bits.{bits, some_below, both, bits_above}
+use Rattle.mask.specs.Bits.{bits}
 use Rattle.mask.proofs.Laws.{mask_words_lem}
 use Rattle.rules.specs.contracts.Configuration.{the_row}
 use Rattle.rules.specs.declared.Configuration.{Configuration}

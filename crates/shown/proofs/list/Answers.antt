@@ -1,6 +1,5 @@
 -- `list` meets its contract: the two numbers are left, or stay as they were.
 use Rattle.std.proofs.Common.{Ok, Err, refl}
-use Rattle.errno.specs.Errno.{number_of}
 use Rattle.shown.proofs.list.Goals as goal
 
 pub returns-in-Ok : goal.returns-in-Ok
