@@ -16,6 +16,6 @@ returns c =
     let i = f in
     let one = sym i.present.ensures ∙ i.if-not-present.false in
     record {
-      there = λ e. (refl, rw i.id.ensures at i.to_bytes.ensures, c.from.ensures ∙ flag_is _ ∙ ap bit f.is_open.ensures);
+      there = λ e. (refl, rw i.id.ensures at i.to_bytes.ensures, c.from-2.ensures ∙ flag_is _ ∙ ap bit f.is_open.ensures);
       absent = λ e. absurd (true≢false (sym one ∙ e));
     }
