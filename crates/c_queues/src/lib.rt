@@ -79,7 +79,9 @@ pub extern "C" fn zk_raw_usable(
 }
 
 fn queue(apid: u8, apqi: u8) -> Apqn
-    ensures { apqn result.adapter result.domain ≡ queue_with apid apqi }
+    ensures adapter { result.adapter.0 ≡ apid }
+    ensures domain { result.domain.0 ≡ apqi }
+    ensures queue { apqn result.adapter result.domain ≡ queue_with apid apqi }
 {
     Apqn {
         adapter: Apid(apid),
