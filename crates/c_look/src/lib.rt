@@ -1,7 +1,7 @@
 // The C interface to what there is to see of devices: which one is in a slot or has a queue, and its assigned control domains.
 // include/zokormendu.h has the declarations.
 //
-// Rests on mask, rules, fields, layout, controllist, seen and served.
+// Rests on mask, fields, layout, controllist, seen and served.
 #![tactic(auto)]
 
 ghost use Rattle.layout.specs.Lent.{devices};

@@ -1,7 +1,7 @@
 // The C interface to what a record holds of the host: limits, masks and configuration, read back. include/zokormendu.h has the
 // declarations.
 //
-// Rests on mask, fields, layout, record, matrixbytes and hostbytes.
+// Rests on fields, layout, record, matrixbytes and hostbytes.
 #![tactic(auto)]
 
 ghost use Rattle.std.specs.Prelude.{◌≡◌};

@@ -1,7 +1,7 @@
 // Carries out a line of the console, by the functions that a caller would call.
 //
 // Rests on errno, mask, rules, model, layout, encoding, configure, bind, sweep, calls, request, run, served, split, configtext,
-// answerline, wordtext, linewords and linetext.
+// answerline, linewords and linetext.
 #![tactic(auto)]
 
 ghost use Rattle.std.specs.Prelude.{◌≡◌};

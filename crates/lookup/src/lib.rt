@@ -1,6 +1,6 @@
 // Looking through the devices of a record: the slot of an id, a free slot, and whether queues are assigned.
 //
-// Rests on errno, mask, rules, product, products, layout and record.
+// Rests on mask, rules, product, products, layout and record.
 #![tactic(auto)]
 
 ghost use Rattle.std.specs.Prelude.{◌&&◌, ◌≡◌};

@@ -1,7 +1,7 @@
 // The console's session: it reads what there is of standard input, has it taken, and writes the answers. No contract can say what is
 // read or written; what becomes of it is the contract of crate feed.
 //
-// Rests on errno, rules, layout, encoding, served, answerline and feed.
+// Rests on rules, layout, served, answerline and feed.
 #![tactic(auto)]
 
 ghost use Rattle.std.specs.Prelude.{◌≡◌, ℕ, ◌≤◌, length, MatchOption, MatchResult};
