@@ -19,6 +19,6 @@ pub fn create(words: &mut Words, id: Id) -> Answer
     }
     let slot = lookup::free(words).ok_or(Errno::Enospc)?;
     layout::hold_words(words);
-    store::put_device(words, slot, Some(id));
+    store::put_device(words, slot, true, id);
     Ok(())
 }

@@ -18,7 +18,7 @@ pub fn remove(words: &mut Words, id: Id) -> Answer
 {
     layout::hold_words(words);
     let freed = slot_if(words, id, false, Errno::Ebusy)?;
-    store::put_device(words, freed, None);
+    store::put_device(words, freed, false, Id { hi: 0, lo: 0 });
     Ok(())
 }
 

@@ -2,7 +2,7 @@
 -- Any contents are read: a limit above 255 as 255, a flag by not being 0, a driver byte beyond the three as unbound.
 -- The rules: RULES.md, "Record".
 -- Assumes nothing.
-use Rattle.std.specs.Prelude.{ℕ, zero, suc, ◌+◌, ◌-◌, ◌*◌, ◌^◌, min, Bool, true, false, cond, not, ◌&&◌, Option, Some, None, List, [], ◌∷◌, ◌++◌, get_or, set, replicate, eqb, ltb}
+use Rattle.std.specs.Prelude.{ℕ, zero, suc, ◌+◌, ◌-◌, ◌*◌, ◌^◌, min, Bool, false, cond, not, ◌&&◌, List, [], ◌∷◌, ◌++◌, get_or, set, replicate, eqb, ltb}
 use Rattle.mask.specs.Bits.{Bits, bits, bit_at, numbers}
 use Rattle.rules.specs.declared.Driver.{Driver}
 use Rattle.rules.specs.declared.Driver.TheVariants.{Unbound, Host, Passthrough}
@@ -145,16 +145,6 @@ put_device ws p present i =
     (put_four (put_four (put_four (put_four ws (device_at p) (cond present 1 0 ∷ 0 ∷ i.hi ∷ i.lo ∷ [])) (device_at p + 4) zeros)
     (device_at p + 8) zeros) (device_at p + 12) zeros)
     ws
-
--- the words of a slot before its masks: whether there is a device, that it is not open, its id
-unfoldable pub first_words : Option Id → List ℕ
-first_words None = zeros
-first_words (Some i) = 1 ∷ 0 ∷ i.hi ∷ i.lo ∷ []
-
--- the words with slot p given to a device with an id, or emptied
-abbrev pub put_slot : List ℕ → ℕ → Option Id → List ℕ
-put_slot ws p None = put_device ws p false no_id
-put_slot ws p (Some i) = put_device ws p true i
 
 -- the words with the types of the first n adapters replaced
 unfoldable pub put_types : List ℕ → (ℕ → ℕ) → ℕ → List ℕ

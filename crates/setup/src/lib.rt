@@ -64,6 +64,6 @@ fn clear_slots(words: &mut Words)
     ensures { words.new ≡ clear_slots words.old slots }
 {
     for slot in 0..SLOTS {
-        store::put_device(words, slot, None);
+        store::put_device(words, slot, false, Id { hi: 0, lo: 0 });
     }
 }

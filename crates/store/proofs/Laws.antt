@@ -1,17 +1,14 @@
 -- Four words that are put at once, the words of no bit, a flag as a number.
 -- Assumes nothing.
-use Rattle.std.proofs.Common.{◌≡◌, ℕ, zero, suc, ◌+◌, ◌<◌, refl, sym, ap, ◌∙◌, arith, Bool, true, false, cond, List, [], ◌∷◌, length, get_or, set, Option, Some, None}
+use Rattle.std.proofs.Common.{◌≡◌, ℕ, zero, suc, ◌+◌, ◌<◌, refl, sym, ap, ◌∙◌, arith, Bool, true, false, cond, List, [], ◌∷◌, length, get_or, set}
 use borrow.Rule.Slice.PartMut.{put_mid}
-use lib.Dec.{ltb}
 use mir.Val.{Val, bool_byte}
 use denote.Laws.{Is}
 use Rattle.mask.specs.declared.Mask.{Mask}
 use Rattle.mask.specs.contracts.Mask.{the_row}
 use Rattle.mask.specs.Bits.{Bits, bits, no_bits, number, numbers}
 use Rattle.mask.proofs.Laws.{mask_words_lem, numbers_of_bits}
-use Rattle.rules.specs.declared.Id.{Id}
-use Rattle.rules.specs.State.{slots}
-use Rattle.layout.specs.Layout.{put_four, zeros, device_at, first_words, put_device, put_slot}
+use Rattle.layout.specs.Layout.{put_four, zeros}
 use Rattle.layout.proofs.Laws.{four_of}
 
 four_written : (ws : List ℕ) (k a b c d : ℕ) → suc (suc (suc k)) < length ws
@@ -41,12 +38,3 @@ none_words m h e = sym (numbers_of_bits (omega arith) (mask_words_lem m h)) ∙ 
 pub flag_byte : (b : Bool) → bool_byte b ≡ cond b 1 0
 flag_byte true = refl
 flag_byte false = refl
-
--- a slot by its first words
-pub slot_put : (ws : List ℕ) (p : ℕ) (d : Option Id)
-    → cond (ltb p slots)
-    (put_four (put_four (put_four (put_four ws (device_at p) (first_words d)) (device_at p + 4) zeros) (device_at p + 8) zeros) (device_at p + 12) zeros)
-    ws ≡ put_slot ws p d
-unfolding first_words put_device
-slot_put ws p None = refl
-slot_put ws p (Some i) = refl

@@ -6,7 +6,7 @@
 ghost use Rattle.std.specs.Prelude.{◌≡◌, ◌+◌, ◌<◌, cond, get_or};
 ghost use Rattle.mask.specs.Bits.{bits};
 ghost use Rattle.layout.specs.Layout.{word_count, apmask_at, aqmask_at};
-ghost use Rattle.layout.specs.Layout.{put_four, put_limits, put_numbers, put_open, put_slot, first_words, put_types, put_config};
+ghost use Rattle.layout.specs.Layout.{put_four, put_limits, put_numbers, put_open, put_device, put_types, put_config};
 
 use layout::{
     ADAPTERS, APMASK, AQMASK, CONTROLS, DOMAINS, FIRST_SLOT, MAX_ADAPTER, MAX_DOMAIN, OPEN,
@@ -61,30 +61,21 @@ pub fn put_open(words: &mut Words, slot: usize, opened: bool)
     }
 }
 
-// Gives a slot to the device with an id, or empties it: nothing is assigned, and it is not open.
-pub fn put_device(words: &mut Words, slot: usize, device: Option<Id>)
-    ensures { words.new ≡ put_slot words.old slot device }
+// Gives a slot to a device with an id, or empties it: nothing is assigned, and it is not open.
+pub fn put_device(words: &mut Words, slot: usize, present: bool, id: Id)
+    ensures { words.new ≡ put_device words.old slot present id }
 {
     if slot < SLOTS {
         let k = FIRST_SLOT + slot * SLOT_WORDS;
+        let first = Mask {
+            words: [u64::from(present), 0, id.hi, id.lo],
+        };
         let none = Mask::empty();
-        put_mask(words, k, first_words(device));
+        put_mask(words, k, first);
         put_mask(words, k + 4, none);
         put_mask(words, k + 8, none);
         put_mask(words, k + 12, none);
     }
-}
-
-// The words of a slot before its masks.
-#[tactic(auto, unfolding(layout::specs::Layout::first_words))]
-fn first_words(device: Option<Id>) -> Mask
-    ensures { result.words ≡ first_words device }
-{
-    let words = match device {
-        Some(id) => [1, 0, id.hi, id.lo],
-        None => [0; 4],
-    };
-    Mask { words }
 }
 
 pub fn put_configuration(words: &mut Words, configuration: Configuration)
