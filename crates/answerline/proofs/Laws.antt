@@ -1,6 +1,6 @@
 -- The answer lines, and texts that are written one after the other.
 -- Assumes nothing.
-use Prim.Native.Nat.{ℕ, zero, suc, ◌+◌, ◌/◌, ◌%◌, ◌≤◌, ◌<◌}
+use Prim.Native.Nat.{ℕ, zero, suc, ◌+◌, ◌-◌, ◌/◌, ◌%◌, ◌≤◌, ◌<◌}
 use native.Mathlib.Omega.{arith}
 use native.Mathlib.Nat.{add_assoc}
 use native.Mathlib.Numerals.{add-one}
@@ -8,8 +8,8 @@ use mathlib.Core.Bool.{Bool, true, false, cond}
 use mathlib.Core.List.{List, [], ◌∷◌, ◌++◌, append_assoc}
 use mathlib.Core.Path.{◌≡◌, refl, sym, ap, ◌∙◌}
 use lib.Dec.{ltb}
-use lib.ListN.{length, take, drop, set, length-append}
-use lib.Seq.{paste, take-paste, drop-paste, take-length, drop-drop, set_split, append_snoc}
+use lib.ListN.{length, take, drop, set, replicate, length-append, length-replicate}
+use lib.Seq.{paste, take-paste, drop-paste, take-length, take_all, drop_at, drop-drop, set_split, append_snoc}
 use borrow.Author.Tests.{le-leb, lt-leb}
 use Rattle.errno.specs.Ascii.{ascii}
 use Rattle.errno.specs.Errno.{number_of, name_of, cases}
@@ -18,7 +18,7 @@ use Rattle.errno.specs.declared.Errno.TheVariants.{Enoent, Ebusy, Eexist, Enodev
 use Rattle.rules.specs.declared.Moved.{Moved}
 use Rattle.rules.specs.declared.Moved.TheVariants.{Idle, Released, BoundHost, BoundPassthrough}
 use Rattle.movednames.specs.Moves.{moved_word}
-use Rattle.decimal.specs.Decimal.{decimal_in, decimal}
+use Rattle.decimal.specs.Decimal.{decimal_in, decimal, most}
 use Rattle.answerline.specs.Added.{Added}
 use Rattle.answerline.specs.declared.Said.{Said}
 use Rattle.answerline.specs.declared.Said.TheVariants.{Done, Refused, Did, Used}
@@ -57,6 +57,15 @@ put_none d at h = let e = lt-leb (at + longest) (length d) h in record { bytes =
 
 -- ---- the texts
 
+-- digits, and zeros before them
+pub digits_of : {b : List ℕ} (from n : ℕ) → (b ≡ replicate from 0 ++ decimal n) × (from + length (decimal n) ≡ most)
+    → (take (most - from) (drop from b) ≡ decimal n) × (most ≤ length b)
+digits_of {b} from n (e, l) =
+    let zeros : List ℕ = replicate from 0 in
+    let long : length zeros ≡ from = length-replicate from 0 in
+    let digits : drop from b ≡ decimal n = ap (drop from) e ∙ drop_at zeros (decimal n) from long in
+    (rw digits (take_all (most - from) (decimal n) (omega arith)), omega (arith, ap length e, length-append zeros (decimal n)))
+
 -- the line of a refusal, whose name is at most 13 long
 pub refusal : (e : Errno) → (command_line (number_of e) ≡ ended (ascii "refused " ++ name_of e)) × (length (name_of e) ≤ 13)
 unfolding command_line name_in cases number_of name_of ascii
@@ -89,7 +98,7 @@ decimal_short (suc k) n = go (ltb n 10) (decimal_short k (n / 10))
     go true h = omega arith
     go false h = omega (arith, length-append (decimal_in k (n / 10)) ((48 + n % 10) ∷ []))
 
-pub used_short : (n : ℕ) → length (decimal n) ≤ 10
+used_short : (n : ℕ) → length (decimal n) ≤ 10
 unfolding decimal
 used_short n = decimal_short 9 n
 

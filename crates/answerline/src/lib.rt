@@ -59,8 +59,10 @@ fn used(out: &mut [u8], at: usize, n: u32) -> usize
     requires { at + longest ≤ length out.old }
     ensures { Adds (sweep_line n) at out.entry out.exit result }
 {
-    let mut buffer = [0; decimal::DIGITS];
-    line(out, at, b"ok ", decimal::write(n, &mut buffer))
+    let number = decimal::write(n);
+    let bytes = number.bytes;
+    let from = number.from;
+    line(out, at, b"ok ", &bytes[from..])
 }
 
 // Writes a line of two texts.

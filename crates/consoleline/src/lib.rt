@@ -88,6 +88,6 @@ fn said(answer: Answer) -> Said
 {
     match answer {
         Ok(()) => Said::Done,
-        Err(e) => Said::Refused(e),
+        Err(errno) => Said::Refused(errno),
     }
 }

@@ -3,7 +3,7 @@ use Rattle.decimal.proofs.Laws.{Sofar}
 use Rattle.decimal.proofs.write.Given as goal
 
 abbrev pub invariant-loop-rest : goal.invariant-loop-rest
-invariant-loop-rest l = Sofar l.n l.buffer l.from l.rest
+invariant-loop-rest l = Sofar l.n l.bytes l.from l.rest
 
 abbrev pub decreases-loop-rest : goal.decreases-loop-rest
 decreases-loop-rest l = l.rest
