@@ -18,8 +18,8 @@ fn main(rt: HostRuntime) -> io::Result<()> {
 }
 
 fn each(rt: &impl Print, words: &mut Words, drivers: &mut Drivers, rows: &[u8]) -> io::Result<()> {
-    for k in 0..256usize {
-        row(rt, words, drivers, parts::part(rows, b';', k))?;
+    for part in rows.split(|c| *c == b';').take(256) {
+        row(rt, words, drivers, part)?;
     }
     Ok(())
 }

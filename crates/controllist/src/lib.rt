@@ -46,8 +46,7 @@ fn write(controls: Mask, text: &mut [u8]) -> usize
         × (result ≡ length (domain_text (bits controls))) }
 {
     let mut at = 0usize;
-    for coming in 0..256usize {
-        let domain = coming as u8;
+    for domain in 0..=255u8 {
         if controls.has(Apqi(domain)) {
             put_line(text, at, domain);
             at += LINE;

@@ -49,8 +49,8 @@ fn main(rt: HostRuntime) -> io::Result<()> {
 // A row is a guest's number, a letter for what is done, and the words that are printed; the second of them is the number or
 // the mask. The rehearsal guest is number 9, and what it asks for at the end is guest 1's.
 fn each(rt: &impl Print, words: &mut Words, drivers: &mut Drivers, rows: &[u8]) -> io::Result<()> {
-    for k in 0..32usize {
-        row(rt, words, drivers, parts::part(rows, b';', k))?;
+    for part in rows.split(|c| *c == b';') {
+        row(rt, words, drivers, part)?;
     }
     Ok(())
 }

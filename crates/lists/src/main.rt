@@ -30,11 +30,6 @@ fn list(rt: &(impl Input + Print), words: &mut Words, drivers: &mut Drivers) -> 
         &mut answers,
     );
     print::number(rt, b"steps ", n as u64)?;
-    print_answers(rt, answers, n)
-}
-
-// The first n answers.
-fn print_answers(rt: &impl Print, answers: [u8; 640], n: usize) -> io::Result<()> {
     for answer in answers.iter().take(n) {
         print::number(rt, b"", u64::from(*answer))?;
     }

@@ -29,8 +29,8 @@ fn main(rt: HostRuntime) -> io::Result<()> {
 }
 
 fn each(rt: &impl Print, table: &[u8]) -> io::Result<()> {
-    for k in 0..128usize {
-        row(rt, parts::part(table, b';', k))?;
+    for part in table.split(|c| *c == b';') {
+        row(rt, part)?;
     }
     Ok(())
 }
