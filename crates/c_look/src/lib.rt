@@ -12,7 +12,7 @@ ghost use Rattle.served.specs.Served.{id_in, queue_with};
 use controllist::CONTROLS_BYTES;
 use fields::ID_BYTES;
 use layout::{Drivers, Words};
-use mask::{Apid, Apqi, Apqn};
+use mask::Apqn;
 
 // The id of the device in a slot, and 1 or 0 for whether it is open.
 #[unsafe(no_mangle)]
@@ -39,11 +39,7 @@ pub extern "C" fn zk_raw_holder(
 ) -> u8
     ensures { HolderShown (devices words.entry) (queue_with apid apqi) id.entry id.exit result }
 {
-    let queue = Apqn {
-        adapter: Apid(apid),
-        domain: Apqi(apqi),
-    };
-    seen::holder(words, queue, id)
+    seen::holder(words, Apqn::new(apid, apqi), id)
 }
 
 // The lines of a device's assigned control domains, and the number of bytes.

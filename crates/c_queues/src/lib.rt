@@ -16,14 +16,14 @@ ghost use Rattle.served.specs.Served.{id_in, queue_with, MoveServes, SweepServes
 
 use fields::ID_BYTES;
 use layout::{Drivers, Words};
-use mask::{Apid, Apqi, Apqn};
+use mask::Apqn;
 
 // 0 idle, 1 released, 2 bound to host, 3 bound to passthrough.
 #[unsafe(no_mangle)]
 pub extern "C" fn zk_raw_move(words: &Words, drivers: &mut Drivers, apid: u8, apqi: u8) -> u8
     ensures { MoveServes apid apqi words.entry drivers result }
 {
-    request::make_move(words, drivers, queue(apid, apqi))
+    request::make_move(words, drivers, Apqn::new(apid, apqi))
 }
 
 // The moves used; more is then 1 where any remain, and 0 where none does.
@@ -52,7 +52,7 @@ pub extern "C" fn zk_raw_remaining(words: &Words, drivers: &Drivers) -> u32
 pub extern "C" fn zk_raw_driver(words: &Words, drivers: &Drivers, apid: u8, apqi: u8) -> u8
     ensures { result ≡ driver_number ((state words.entry drivers.entry).driver (queue_with apid apqi)) }
 {
-    drivernumbers::driver(drivers, queue(apid, apqi))
+    drivernumbers::driver(drivers, Apqn::new(apid, apqi))
 }
 
 #[tactic(auto, unfolding(layout::specs::Layout::state_in))]
@@ -60,7 +60,7 @@ pub extern "C" fn zk_raw_driver(words: &Words, drivers: &Drivers, apid: u8, apqi
 pub extern "C" fn zk_raw_target(words: &Words, drivers: &Drivers, apid: u8, apqi: u8) -> u8
     ensures { result ≡ driver_number (target (state words.entry drivers.entry) (queue_with apid apqi)) }
 {
-    drivernumbers::target(words, queue(apid, apqi))
+    drivernumbers::target(words, Apqn::new(apid, apqi))
 }
 
 // 1 where the guest of the device can use the queue now, else 0.
@@ -75,16 +75,5 @@ pub extern "C" fn zk_raw_usable(
     ensures { result ≡ bit (usable_with (id_in id.entry) (state words.entry drivers.entry) (queue_with apid apqi)) }
 {
     let id = fields::id_of(id);
-    u8::from(guest::usable(words, drivers, id, queue(apid, apqi)))
-}
-
-fn queue(apid: u8, apqi: u8) -> Apqn
-    ensures adapter { result.adapter.0 ≡ apid }
-    ensures domain { result.domain.0 ≡ apqi }
-    ensures queue { apqn result.adapter result.domain ≡ queue_with apid apqi }
-{
-    Apqn {
-        adapter: Apid(apid),
-        domain: Apqi(apqi),
-    }
+    u8::from(guest::usable(words, drivers, id, Apqn::new(apid, apqi)))
 }

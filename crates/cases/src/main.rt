@@ -3,7 +3,7 @@
 #![tactic(auto)]
 
 use layout::{Drivers, SLOTS, WORDS, Words};
-use mask::{Apid, Apqi, Apqn, Mask};
+use mask::{Apqn, Mask};
 use rules::{Answer, Configuration, Driver, Id, Kind, Matrix, Moved, QUEUES};
 use std::io;
 
@@ -122,10 +122,7 @@ fn queues(
     s: &[u8],
 ) -> io::Result<()> {
     let n = value(s, 1);
-    let queue = Apqn {
-        adapter: Apid(byte(s, 1)),
-        domain: Apqi(byte(s, 2)),
-    };
+    let queue = Apqn::new(byte(s, 1), byte(s, 2));
     match letter {
         b'm' => moved(rt, bind::move_queue(words, drivers, queue)),
         b't' => target(rt, target::target(words, queue)),
@@ -180,10 +177,7 @@ fn shows(
     match letter {
         b'i' => number(rt, lookup::find(words, id).unwrap_or(SLOTS) as u64),
         b'y' => {
-            let queue = Apqn {
-                adapter: Apid(byte(s, 2)),
-                domain: Apqi(byte(s, 3)),
-            };
+            let queue = Apqn::new(byte(s, 2), byte(s, 3));
             yes(rt, guest::usable(words, drivers, id, queue))
         }
         b'k' => masks(rt, words, drivers, id, matrix),

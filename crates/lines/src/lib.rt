@@ -9,7 +9,7 @@ ghost use Rattle.product.specs.Meet.{queues_of};
 ghost use Rattle.lines.specs.Lines.{line_size, line_of, with_line};
 ghost use Rattle.lines.specs.Written.{Written};
 
-use mask::{Apid, Apqi, Apqn};
+use mask::Apqn;
 use product::Product;
 use rules::QUEUES;
 
@@ -49,10 +49,7 @@ fn has(product: Product, queue: usize) -> bool
     requires { queue < queues }
     ensures { result ≡ queues_of product queue }
 {
-    product.has(Apqn {
-        adapter: Apid((queue / 256) as u8),
-        domain: Apqi((queue % 256) as u8),
-    })
+    product.has(Apqn::new((queue / 256) as u8, (queue % 256) as u8))
 }
 
 // Writes the line of a queue at an index of the buffer.

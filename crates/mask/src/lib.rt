@@ -6,7 +6,8 @@
 ghost use Rattle.std.specs.Prelude.{ℕ, ◌-◌, ◌%◌, ◌^◌, ◌≡◌};
 ghost use Rattle.mask.specs.Bits.{bits, no_bits, all_bits, included, excluded};
 
-// An adapter number. It is a kind of its own, so that no call can take a domain number for it.
+// An adapter number. It and a domain number are kinds of their own: where a function takes the one, the other is no number for it.
+// `has` takes either, as a mask may be of adapters or of domains.
 #[derive(Clone, Copy, PartialEq, Eq)]
 pub struct Apid(pub u8);
 
@@ -19,6 +20,19 @@ pub struct Apqi(pub u8);
 pub struct Apqn {
     pub adapter: Apid,
     pub domain: Apqi,
+}
+
+impl Apqn {
+    // The queue of an adapter's number and a domain's.
+    pub fn new(apid: u8, apqi: u8) -> Apqn
+        ensures adapter { result.adapter.0 ≡ apid }
+        ensures domain { result.domain.0 ≡ apqi }
+    {
+        Apqn {
+            adapter: Apid(apid),
+            domain: Apqi(apqi),
+        }
+    }
 }
 
 // A kind of number that names the bits of masks.
@@ -78,20 +92,20 @@ impl Mask {
         ensures { result ≡ bits self (N.bit number) }
     {
         let i = number.bit();
-        (self.words[(i / 64) as usize] >> (63 - i % 64)) % 2 == 1
+        (self.words[usize::from(i / 64)] >> (63 - i % 64)) % 2 == 1
     }
 
     pub fn with(mut self, i: u8) -> Mask
         ensures { bits result ≡ included i (bits self) }
     {
-        self.words[(i / 64) as usize] |= bit_of(i);
+        self.words[usize::from(i / 64)] |= bit_of(i);
         self
     }
 
     pub fn without(mut self, i: u8) -> Mask
         ensures { bits result ≡ excluded i (bits self) }
     {
-        self.words[(i / 64) as usize] &= !bit_of(i);
+        self.words[usize::from(i / 64)] &= !bit_of(i);
         self
     }
 }

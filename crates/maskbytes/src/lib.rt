@@ -12,7 +12,7 @@ use mask::Mask;
 pub fn with_nibble(mut m: Mask, g: u8, v: u8) -> Mask
     ensures { bits result ≡ either (bits m) (group 4 (g % 64) (v % 16)) }
 {
-    m.words[(g % 64 / 16) as usize] |= u64::from(v % 16) << (60 - 4 * (g % 16));
+    m.words[usize::from(g % 64 / 16)] |= u64::from(v % 16) << (60 - 4 * (g % 16));
     m
 }
 

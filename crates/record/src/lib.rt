@@ -79,7 +79,7 @@ pub fn configured_controls(words: &Words) -> Mask
 pub fn hardware_type(words: &Words, adapter: Apid) -> u64
     ensures { result ≡ (config words.entry).types adapter.0 }
 {
-    words[TYPES + adapter.0 as usize]
+    words[TYPES + usize::from(adapter.0)]
 }
 
 // A word of a slot, or 0 past the last slot.

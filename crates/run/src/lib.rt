@@ -60,11 +60,7 @@ fn step(words: &mut Words, drivers: &mut Drivers, bytes: &[u8]) -> u8
     if op == 10 {
         return request::make_sweep(words, drivers, fields::number_of(&bytes[2..]));
     }
-    let queue = Apqn {
-        adapter: Apid(bytes[2]),
-        domain: Apqi(bytes[3]),
-    };
-    request::make_move(words, drivers, queue)
+    request::make_move(words, drivers, Apqn::new(bytes[2], bytes[3]))
 }
 
 // Carries out a command, and gives its answer as a byte.

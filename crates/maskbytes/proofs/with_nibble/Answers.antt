@@ -18,8 +18,9 @@ returns c =
     let v = c.args.v % 16 in
     let place : g % 16 ≡ g % 64 % 16 = omega arith in
     let same : c.from.result ≡ v = c.from.ensures in
-    fun_ext
+    rw c.from-2.ensures
+    (fun_ext
     (λ j. ap (λ (p : ℕ). bit_at 64 (set x (g % 64 / 16) (bit_or (get_or x (g % 64 / 16) 0) p)) j)
     (ap (λ (n : ℕ). n * 2 ^ (60 - 4 * (g % 16)) % 2 ^ 64) same ∙
     shl_exact 4 (60 - 4 * (g % 16)) 64 (omega arith) (omega arith) ∙ ap (λ (k : ℕ). v * 2 ^ (60 - 4 * k)) place)
-    ∙ group_set (g % 64) v j (omega arith) x (omega (arith, (mask_words_lem c.args.m c.well_formed.0).long)))
+    ∙ group_set (g % 64) v j (omega arith) x (omega (arith, (mask_words_lem c.args.m c.well_formed.0).long))))

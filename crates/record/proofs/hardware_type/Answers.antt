@@ -6,4 +6,4 @@ use Rattle.record.proofs.hardware_type.Goals as goal
 
 pub returns : goal.returns
 unfolding config_in
-returns c = simp (lt-ltb c.args.adapter.0 256 (omega arith))
+returns c = simp (c.from.ensures, lt-ltb c.args.adapter.0 256 (omega arith))

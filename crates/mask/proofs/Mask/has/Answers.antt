@@ -5,4 +5,4 @@ use Rattle.mask.proofs.Mask.has.Goals as goal
 
 pub returns : goal.returns
 unfolding digit bit_at
-returns g c = ap (bits c.args.self) c.bit-i.ensures
+returns g c = rw c.from.ensures (ap (bits c.args.self) c.bit-i.ensures)
