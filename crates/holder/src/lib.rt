@@ -16,12 +16,7 @@ use mask::Apqn;
 pub fn holder(words: &Words, queue: Apqn) -> Option<usize>
     ensures { result ≡ found (holder_of (devices words.entry) (apqn queue.adapter queue.domain)) }
 {
-    for slot in 0..SLOTS {
-        if holds(words, slot, queue) {
-            return Some(slot);
-        }
-    }
-    None
+    (0..SLOTS).find(|&slot| holds(words, slot, queue))
 }
 
 // Whether the device at a slot has a queue.

@@ -18,12 +18,7 @@ use rules::Id;
 pub fn find(words: &Words, id: Id) -> Option<usize>
     ensures { result ≡ found (slot_of id (devices words.entry)) }
 {
-    for slot in 0..SLOTS {
-        if is_at(words, slot, id) {
-            return Some(slot);
-        }
-    }
-    None
+    (0..SLOTS).find(|&slot| is_at(words, slot, id))
 }
 
 // Whether the device with an id is at a slot.
@@ -44,24 +39,14 @@ fn occupied(words: &Words, slot: usize) -> bool
 pub fn free(words: &Words) -> Option<usize>
     ensures { result ≡ found (free_slot (devices words.entry)) }
 {
-    for at in 0..SLOTS {
-        if !occupied(words, at) {
-            return Some(at);
-        }
-    }
-    None
+    (0..SLOTS).find(|&slot| !occupied(words, slot))
 }
 
 // Whether a queue that is wanted is assigned to another device than the one at a slot.
 pub fn taken(words: &Words, slot: usize, wanted: Product) -> bool
     ensures { result ≡ some_below queues (both (queues_of wanted) (assigned_elsewhere slot (devices words.entry))) }
 {
-    for other in 0..SLOTS {
-        if other != slot && shares(words, other, wanted) {
-            return true;
-        }
-    }
-    false
+    (0..SLOTS).any(|other| other != slot && shares(words, other, wanted))
 }
 
 // Whether a queue that is wanted is assigned to the device at a slot.
