@@ -1,6 +1,6 @@
 // The host's masks: apmask and aqmask.
 //
-// Rests on errno, mask, masktext, rules, product, layout, record, store and lookup.
+// Rests on errno, mask, masktext, rules, product, products, layout, store and lookup.
 #![tactic(auto)]
 
 ghost use Rattle.std.specs.Prelude.{◌≡◌};
@@ -20,14 +20,10 @@ pub fn set_apmask(words: &mut Words, text: &[u8]) -> Answer
     ensures { Obeys (set_apmask text.now) (with_apmask text.now) words.entry words.exit result }
 {
     layout::hold_words(words);
-    let old = record::apmask(words);
-    let m = masktext::parse(text, old)?;
-    let reserved = Product {
-        adapters: m,
-        domains: record::aqmask(words),
-    };
-    unassigned(words, reserved)?;
-    store::put_apmask(words, m);
+    let mut reserved = products::reserved(words);
+    reserved.adapters = masktext::parse(text, reserved.adapters)?;
+    check_unassigned(words, reserved)?;
+    store::put_apmask(words, reserved.adapters);
     Ok(())
 }
 
@@ -35,19 +31,15 @@ pub fn set_aqmask(words: &mut Words, text: &[u8]) -> Answer
     ensures { Obeys (set_aqmask text.now) (with_aqmask text.now) words.entry words.exit result }
 {
     layout::hold_words(words);
-    let old = record::aqmask(words);
-    let m = masktext::parse(text, old)?;
-    let reserved = Product {
-        adapters: record::apmask(words),
-        domains: m,
-    };
-    unassigned(words, reserved)?;
-    store::put_aqmask(words, m);
+    let mut reserved = products::reserved(words);
+    reserved.domains = masktext::parse(text, reserved.domains)?;
+    check_unassigned(words, reserved)?;
+    store::put_aqmask(words, reserved.domains);
     Ok(())
 }
 
 // Queues that are to be reserved are refused if one of them is assigned. Their masks have four words each.
-fn unassigned(words: &Words, reserved: Product) -> Answer
+fn check_unassigned(words: &Words, reserved: Product) -> Answer
     ensures answer { result ≡ unassigned (queues_of reserved) (devices words.entry) }
     ensures sized { Sized 64 4 reserved.adapters.words × Sized 64 4 reserved.domains.words }
 {

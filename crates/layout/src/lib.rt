@@ -51,7 +51,8 @@ pub type Words = [u64; WORDS];
 // A byte for the driver of each queue.
 pub type Drivers = [u8; QUEUES];
 
-// That its items fit is known of a reference to a slice, and not of one to an array. These two do nothing but state that.
+// That each item is a number of its type is known of a reference to a slice, and not of one to an array. These two do nothing but
+// state it of an array.
 pub fn hold_words(words: &Words)
     ensures { Sized 64 word_count words.now }
 {

@@ -16,11 +16,9 @@ use rules::Driver;
 pub fn target(words: &Words, queue: Apqn) -> Driver
     ensures { result ≡ target_of (host words.entry) (config words.entry) (apqn queue.adapter queue.domain) }
 {
-    let configured = products::configured(words);
-    let reserved = products::reserved(words);
-    if !configured.has(queue) {
+    if !products::configured(words).has(queue) {
         Driver::Unbound
-    } else if reserved.has(queue) {
+    } else if products::reserved(words).has(queue) {
         Driver::Host
     } else if record::hardware_type(words, queue.adapter) < 10 {
         Driver::Unbound

@@ -16,26 +16,26 @@ use Rattle.host.proofs.set_aqmask.Goals as goal
 abbrev host : List ℕ → Bits → HostMasks
 host ws m = record { apmask = mask_at ws apmask_at; aqmask = m }
 
-pub returns-in_err-m : goal.returns-in_err-m
+pub returns-in_err-reserved : goal.returns-in_err-reserved
 unfolding set_aqmask state_in host_in outcome
-returns-in_err-m c =
+returns-in_err-reserved c =
     let ws = c.args.words.now in
     let text = c.args.text.now in
     let p = err_from_is_err_and c.from_residual.result c.from_residual.ensures.1 in
     rw (p.1, p.2)
     (text_refused text ws aqmask_at (host ws) (set_aqmask text) (λ qs. refl) (λ m l qs. read_aqmask ws qs m c.hold_words.ensures.long l)
-    (c.in_err-m.ensures ∙ ap (mask_text text) c.aqmask-old.ensures))
+    (c.in_err-reserved.ensures ∙ ap (mask_text text) c.reserved-reserved.ensures.domains))
 
-pub returns-in_err-unassigned : goal.returns-in_err-unassigned
+pub returns-in_err-check_unassigned : goal.returns-in_err-check_unassigned
 unfolding set_aqmask state_in host_in reserved outcome
-returns-in_err-unassigned c =
+returns-in_err-check_unassigned c =
     let ws = c.args.words.now in
     let text = c.args.text.now in
-    let p = err_from_is_err_and c.from_residual-in_err-unassigned.result c.from_residual-in_err-unassigned.ensures.1 in
+    let p = err_from_is_err_and c.from_residual-in_err-check_unassigned.result c.from_residual-in_err-check_unassigned.ensures.1 in
     rw (p.1, p.2)
     (mask_refused text ws aqmask_at (host ws) (set_aqmask text) (λ qs. refl) (λ m l qs. read_aqmask ws qs m c.hold_words.ensures.long l)
-    c.in_ok-m.m (c.in_ok-m.ensures ∙ ap (mask_text text) c.aqmask-old.ensures)
-    (c.in_err-unassigned.ensures.answer ∙ ap (λ (m : Bits). unassigned (in_product m (bits c.in_ok-m.m)) (device_in ws)) c.apmask.ensures))
+    c.in_ok-reserved.field-0 (c.in_ok-reserved.ensures ∙ ap (mask_text text) c.reserved-reserved.ensures.domains)
+    (c.in_err-check_unassigned.ensures.answer ∙ ap (λ (m : Bits). unassigned (in_product m (bits c.in_ok-reserved.field-0)) (device_in ws)) c.reserved-reserved.ensures.adapters))
 
 pub returns : goal.returns
 unfolding set_aqmask state_in host_in reserved outcome
@@ -43,7 +43,7 @@ returns c =
     let ws = c.args.words.now in
     let text = c.args.text.now in
     mask_set text ws aqmask_at (host ws) (set_aqmask text) (λ qs. refl) (λ m l qs. read_aqmask ws qs m c.hold_words.ensures.long l)
-    c.in_ok-m.m (c.in_ok-m.ensures ∙ ap (mask_text text) c.aqmask-old.ensures)
-    (c.in_ok-unassigned.ensures.answer ∙ ap (λ (m : Bits). unassigned (in_product m (bits c.in_ok-m.m)) (device_in ws)) c.apmask.ensures)
-    c.in_ok-unassigned.ensures.sized.1
+    c.in_ok-reserved.field-0 (c.in_ok-reserved.ensures ∙ ap (mask_text text) c.reserved-reserved.ensures.domains)
+    (c.in_ok-check_unassigned.ensures.answer ∙ ap (λ (m : Bits). unassigned (in_product m (bits c.in_ok-reserved.field-0)) (device_in ws)) c.reserved-reserved.ensures.adapters)
+    c.in_ok-check_unassigned.ensures.sized.1
     c.put_aqmask.ensures

@@ -1,10 +1,10 @@
--- `unassigned` meets its contract. What owning the masks tells says how long they are.
+-- `check_unassigned` meets its contract. What owning the masks tells says how long they are.
 use Rattle.std.proofs.Common.{true, false, sym, ◌∙◌}
 use Rattle.mask.proofs.Laws.{mask_words_lem}
 use Rattle.layout.specs.Layout.{device_in}
 use Rattle.product.specs.Meet.{queues_of}
 use Rattle.host.proofs.Laws.{by_taken}
-use Rattle.host.proofs.unassigned.Goals as goal
+use Rattle.host.proofs.check_unassigned.Goals as goal
 
 pub returns-then-taken : goal.returns-then-taken
 returns-then-taken c =
