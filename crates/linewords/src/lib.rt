@@ -12,7 +12,7 @@ ghost use Rattle.linewords.specs.Asked.{asked, Numbered, NotNumbered};
 
 use encoding::Command;
 use errno::Errno;
-use mask::{Apid, Apqi, Apqn, Mask};
+use mask::{Apqn, Mask};
 use rules::{Id, Kind};
 
 // What a line asks for, with its text lent. A configuration is lent as the text of its four words, which is good.
@@ -63,10 +63,9 @@ pub fn three<'a>(w: &'a [u8], x: &[u8], y: &[u8]) -> Result<Request<'a>, Errno>
     ensures { asked result ≡ by_words (w.now ∷ x.now ∷ y.now ∷ []) }
 {
     if w == b"move".as_slice() {
-        return Ok(Request::Move(Apqn {
-            adapter: Apid(wordtext::byte(x)?),
-            domain: Apqi(wordtext::byte(y)?),
-        }));
+        let adapter = wordtext::byte(x)?;
+        let domain = wordtext::byte(y)?;
+        return Ok(Request::Move(Apqn::new(adapter, domain)));
     }
     Err(Errno::Einval)
 }

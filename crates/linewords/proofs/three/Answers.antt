@@ -10,22 +10,22 @@ use Rattle.linewords.specs.Asked.{asked}
 use Rattle.linewords.proofs.Laws.{when_good_lem, when_bad}
 use Rattle.linewords.proofs.three.Goals as goal
 
-pub returns-in_err-byte : goal.returns-in_err-byte
+pub returns-in_err-adapter : goal.returns-in_err-adapter
 unfolding ascii asked by_words meant outcome
-returns-in_err-byte c =
+returns-in_err-adapter c =
     let p = err_from_is_err_and c.from_residual.result c.from_residual.ensures.1 in rw (p.1, p.2)
-    (when_bad _ c.in_err-byte.ensures ∙ sym (first_yes _ (is_word _ "move" c.eq.ensures c.as_slice.ensures ∙ c.if-eq.true)))
+    (when_bad _ c.in_err-adapter.ensures ∙ sym (first_yes _ (is_word _ "move" c.eq.ensures c.as_slice.ensures ∙ c.if-eq.true)))
 
-pub returns-in_err-byte-2 : goal.returns-in_err-byte-2
+pub returns-in_err-domain : goal.returns-in_err-domain
 unfolding ascii asked by_words meant outcome
-returns-in_err-byte-2 c =
-    let p = err_from_is_err_and c.from_residual-in_err-byte-2.result c.from_residual-in_err-byte-2.ensures.1 in rw (p.1, p.2)
-    ((when_bad _ c.in_err-byte-2.ensures ∙ when_good_lem _ c.in_ok-byte.ensures) ∙ sym (first_yes _ (is_word _ "move" c.eq.ensures c.as_slice.ensures ∙ c.if-eq.true)))
+returns-in_err-domain c =
+    let p = err_from_is_err_and c.from_residual-in_err-domain.result c.from_residual-in_err-domain.ensures.1 in rw (p.1, p.2)
+    ((when_bad _ c.in_err-domain.ensures ∙ when_good_lem _ c.in_ok-adapter.ensures) ∙ sym (first_yes _ (is_word _ "move" c.eq.ensures c.as_slice.ensures ∙ c.if-eq.true)))
 
 pub returns-then-eq : goal.returns-then-eq
 unfolding ascii asked by_words meant outcome
 returns-then-eq c =
-    when_good_lem _ c.in_ok-byte-2.ensures ∙ when_good_lem _ c.in_ok-byte.ensures ∙ sym (first_yes _ (is_word _ "move" c.eq.ensures c.as_slice.ensures ∙ c.if-eq.true))
+    when_good_lem _ c.in_ok-domain.ensures ∙ when_good_lem _ c.in_ok-adapter.ensures ∙ sym (first_yes _ (is_word _ "move" c.eq.ensures c.as_slice.ensures ∙ c.if-eq.true))
 
 pub returns : goal.returns
 unfolding ascii asked by_words meant outcome
