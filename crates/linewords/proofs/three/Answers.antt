@@ -25,7 +25,8 @@ returns-in_err-domain c =
 pub returns-then-eq : goal.returns-then-eq
 unfolding ascii asked by_words meant outcome
 returns-then-eq c =
-    when_good_lem _ c.in_ok-domain.ensures ∙ when_good_lem _ c.in_ok-adapter.ensures ∙ sym (first_yes _ (is_word _ "move" c.eq.ensures c.as_slice.ensures ∙ c.if-eq.true))
+    rw (c.new.ensures.adapter, c.new.ensures.domain)
+    (when_good_lem _ c.in_ok-domain.ensures ∙ when_good_lem _ c.in_ok-adapter.ensures ∙ sym (first_yes _ (is_word _ "move" c.eq.ensures c.as_slice.ensures ∙ c.if-eq.true)))
 
 pub returns : goal.returns
 unfolding ascii asked by_words meant outcome
