@@ -70,17 +70,14 @@ pub fn finish(
 ) -> usize
     ensures { Ends held line.entry out words drivers result }
 {
-    if out.len() < LONGEST {
+    if out.len() < LONGEST || held == 0 {
         return 0;
     }
-    if held == 0 {
-        return 0;
-    }
-    last(words, drivers, &line[..held.min(KEPT)], out)
+    held_line(words, drivers, &line[..held.min(KEPT)], out)
 }
 
 // Carries out a line that is held.
-fn last(words: &mut Words, drivers: &mut Drivers, line: &[u8], out: &mut [u8]) -> usize
+fn held_line(words: &mut Words, drivers: &mut Drivers, line: &[u8], out: &mut [u8]) -> usize
     requires { longest ≤ length out.old }
     ensures { OneDone (line_request line.now) 0 out words drivers result }
 {
@@ -110,7 +107,7 @@ fn take_part(
             held: joined,
         };
     }
-    let w = last(words, drivers, &line[..joined], out);
+    let w = held_line(words, drivers, &line[..joined], out);
     let done = lines(words, drivers, part, e + 1, out, w);
     let kept = fill(line, &part[done.at..]);
     Fed {

@@ -51,6 +51,7 @@ pub fn play(rt: &(impl Input + Print)) {
     }
 }
 
+// Room for the answers. How long an array is, is told where it is made, and not of a reference to it.
 fn buffer() -> [u8; OUT]
     ensures { room ≡ length result }
 {

@@ -20,5 +20,5 @@ returns c = let a = c.args in
     let joined = rest_filled a.line.now a.held c.piece-first.result.now p.0 p.1 c.fill.ensures.value c.fill.ensures.room_after in
     let rest = payload c.lines-done.result.at s in
     part_ended s a.line.now p.0 p.1 (first_end 10 s c.piece-first.ensures) c.piece-first.ensures joined.0 joined.1
-    (omega arith) p.2 c.last-w.ensures c.lines-done.ensures
+    (omega arith) p.2 c.held_line-w.ensures c.lines-done.ensures
     (rw rest at c.fill-kept.ensures.value) (rw rest at c.fill-kept.ensures.room_after)
