@@ -58,10 +58,9 @@ fn one_more(v: u16, base: u8, c: u8, limit: u16) -> Result<u16, Errno>
     requires { base ≤ 16 }
     ensures { outcome result ≡ cond (ltb (digit_of c) base) (at_most limit (granted (v * base + digit_of c))) (refused Einval) }
 {
-    let d = digits::digit_of(c).ok_or(Errno::Einval)?;
-    if base <= d {
-        return Err(Errno::Einval);
-    }
+    let d = digits::digit_of(c)
+        .filter(|d| *d < base)
+        .ok_or(Errno::Einval)?;
     let next = u32::from(v) * u32::from(base) + u32::from(d);
     if u32::from(limit) < next {
         return Err(Errno::Einval);
