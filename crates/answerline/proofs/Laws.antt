@@ -1,16 +1,16 @@
--- The answer lines, and texts that are written one after the other.
+-- The answer lines, and how one is put into a buffer.
 -- Assumes nothing.
-use Prim.Native.Nat.{ℕ, zero, suc, ◌+◌, ◌-◌, ◌/◌, ◌%◌, ◌≤◌, ◌<◌}
+use Prim.Native.Nat.{ℕ, zero, suc, ◌+◌, ◌-◌, ◌/◌, ◌%◌, ◌≤◌}
 use native.Mathlib.Omega.{arith}
-use native.Mathlib.Nat.{add_assoc}
-use native.Mathlib.Numerals.{add-one}
 use mathlib.Core.Bool.{Bool, true, false, cond}
-use mathlib.Core.List.{List, [], ◌∷◌, ◌++◌, append_assoc}
-use mathlib.Core.Path.{◌≡◌, refl, sym, ap, ◌∙◌}
+use mathlib.Core.List.{List, [], ◌∷◌, ◌++◌, append-nil, append_assoc}
+use mathlib.Core.Path.{◌≡◌, refl, ap, ◌∙◌}
 use lib.Dec.{ltb}
-use lib.ListN.{length, take, drop, set, replicate, length-append, length-replicate}
-use lib.Seq.{paste, take-paste, drop-paste, take-length, take_all, drop_at, drop-drop, set_split, append_snoc}
-use borrow.Author.Tests.{le-leb, lt-leb}
+use lib.ListN.{length, take, drop, replicate, length-append, length-drop, length-replicate}
+use lib.Seq.{take-length, take_all, drop_at, drop-drop}
+use borrow.Rule.Slice.PartMut.{put_mid}
+use Rattle.std.proofs.lemmas.List.{take_rest, drop_all}
+use borrow.Author.Tests.{le-leb}
 use Rattle.errno.specs.Ascii.{ascii}
 use Rattle.errno.specs.Errno.{number_of, name_of, cases}
 use Rattle.errno.specs.declared.Errno.{Errno}
@@ -19,41 +19,20 @@ use Rattle.rules.specs.declared.Moved.{Moved}
 use Rattle.rules.specs.declared.Moved.TheVariants.{Idle, Released, BoundHost, BoundPassthrough}
 use Rattle.movednames.specs.Moves.{moved_word}
 use Rattle.decimal.specs.Decimal.{decimal_in, decimal, most}
-use Rattle.answerline.specs.Added.{Added}
+use Rattle.answerline.specs.Written.{Written}
 use Rattle.answerline.specs.declared.Said.{Said}
 use Rattle.answerline.specs.declared.Said.TheVariants.{Done, Refused, Did, Used}
 use Rattle.answerline.specs.Answers.{ended, name_in, command_line, move_line, sweep_line, said_line, longest, Put}
 
 -- ---- what is written
 
--- two texts, the second after the first, are one text
-paste_both : (d : List ℕ) (at : ℕ) (x y : List ℕ) → at + length x ≤ length d
-    → paste (paste d at x (length x)) (at + length x) y (length y) ≡ paste d at (x ++ y) (length (x ++ y))
-paste_both d at x y h =
-    let e = paste d at x (length x) in
-    let m = at + length x in
-    let before : take m e ≡ take at d ++ x = take-paste d at x (length x) (omega arith) (omega arith) ∙ rw take-length in
-    let after : drop (m + length y) e ≡ drop (m + length y) d =
-    sym (drop-drop (length y) m e) ∙ ap (drop (length y)) (drop-paste d at x (length x) (omega arith) (omega arith)) ∙ drop-drop (length y) m d in
-    rw (before, after, take-length y, take-length (x ++ y)) (simp (length-append, append_assoc, add_assoc))
-
--- a text after another
-pub added_both : {x y d₀ d₁ d₂ : List ℕ} {at next r : ℕ} → Added x at d₀ d₁ next → Added y next d₁ d₂ r → at + length x ≤ length d₀
-    → Added (x ++ y) at d₀ d₂ r
-added_both {x} {y} {d₀} {at} a b h =
-    record { shown = b.shown ∙ rw (a.shown, a.next) (paste_both d₀ at x y h); next = omega (arith, a.next, b.next, length-append x y) }
-
--- one byte
-pub added_byte : (d : List ℕ) (at v : ℕ) → at < length d → Added (v ∷ []) at d (set d at v) (at + 1)
-added_byte d at v h = record { shown = rw add-one (set_split d at v h ∙ sym (append_snoc (take at d) v (drop (suc at) d))); next = refl }
-
--- there is room, and the line is written
-pub put_line : {l d₀ d₁ : List ℕ} {at r : ℕ} → Added l at d₀ d₁ r → at + longest ≤ length d₀ → Put l at d₀ d₁ r
-put_line {d₀} {at} a h = let e = le-leb (at + longest) (length d₀) h in record { bytes = rw e a.shown; next = rw e a.next }
-
--- there is no room
-pub put_none : {l : List ℕ} (d : List ℕ) (at : ℕ) → length d < at + longest → Put l at d d at
-put_none d at h = let e = lt-leb (at + longest) (length d) h in record { bytes = rw e; next = rw e }
+-- there is room, and the line is written from the index on
+pub put_line : {l b part : List ℕ} {at r : ℕ} → Written l (take (length b - at) (drop at b)) part r → at + longest ≤ length b
+    → Put l at b (put_mid at (length b - at) b part) (at + r)
+put_line {l} {b} {at = at} w h =
+    let room = le-leb (at + longest) (length b) h in
+    let past = drop_all (length b - at) (drop at b) (omega (arith, length-drop at b)) in
+    record { bytes = rw (room, w.shown, take_rest b at, past, take-length l) (simp (append-nil, append_assoc, drop-drop)); next = rw (room, w.many) }
 
 -- ---- the texts
 

@@ -1,2 +1,2 @@
-pub mod Added
+pub mod Written
 pub mod Answers

@@ -1,12 +1,12 @@
 // The answer line to a line of the console.
 //
-// Rests on errno, copy, decimal, rules and movednames.
+// Rests on errno, decimal, rules and movednames.
 #![tactic(auto)]
 
 ghost use Rattle.std.specs.Prelude.{◌++◌, ◌+◌, ◌≤◌, ◌<◌, length};
 ghost use Rattle.errno.specs.Errno.{number_of};
 ghost use Rattle.answerline.specs.Answers.{ended, command_line, move_line, sweep_line, said_line, longest, Puts};
-ghost use Rattle.answerline.specs.Added.{Adds};
+ghost use Rattle.answerline.specs.Written.{Writes};
 
 use errno::Errno;
 use rules::Moved;
@@ -30,65 +30,59 @@ pub fn put(out: &mut [u8], at: usize, said: Said) -> usize
     if out.len() < LONGEST || out.len() - LONGEST < at {
         return at;
     }
-    match said {
-        Said::Done => last(out, at, b"ok"),
-        Said::Refused(e) => refused(out, at, e),
-        Said::Did(m) => did(out, at, m),
-        Said::Used(n) => used(out, at, n),
+    let rest = &mut out[at..];
+    at + match said {
+        Said::Done => last(rest, b"ok"),
+        Said::Refused(e) => refused(rest, e),
+        Said::Did(m) => did(rest, m),
+        Said::Used(n) => used(rest, n),
     }
 }
 
 // Writes a refusal and its name.
-fn refused(out: &mut [u8], at: usize, e: Errno) -> usize
-    requires { at + longest ≤ length out.old }
-    ensures { Adds (command_line (number_of e)) at out.entry out.exit result }
+fn refused(out: &mut [u8], e: Errno) -> usize
+    requires { longest ≤ length out.old }
+    ensures { Writes (command_line (number_of e)) out.entry out.exit result }
 {
-    line(out, at, b"refused ", errno::name(e))
+    line(out, b"refused ", errno::name(e))
 }
 
 // Writes what a move did.
-fn did(out: &mut [u8], at: usize, m: Moved) -> usize
-    requires { at + longest ≤ length out.old }
-    ensures { Adds (move_line m) at out.entry out.exit result }
+fn did(out: &mut [u8], m: Moved) -> usize
+    requires { longest ≤ length out.old }
+    ensures { Writes (move_line m) out.entry out.exit result }
 {
-    line(out, at, b"ok ", movednames::word(m))
+    line(out, b"ok ", movednames::word(m))
 }
 
 // Writes the moves that a sweep used.
-fn used(out: &mut [u8], at: usize, n: u32) -> usize
-    requires { at + longest ≤ length out.old }
-    ensures { Adds (sweep_line n) at out.entry out.exit result }
+fn used(out: &mut [u8], n: u32) -> usize
+    requires { longest ≤ length out.old }
+    ensures { Writes (sweep_line n) out.entry out.exit result }
 {
     let number = decimal::write(n);
     let bytes = number.bytes;
     let from = number.from;
-    line(out, at, b"ok ", &bytes[from..])
+    line(out, b"ok ", &bytes[from..])
 }
 
 // Writes a line of two texts.
-fn line(out: &mut [u8], at: usize, first: &[u8], second: &[u8]) -> usize
-    requires { at + length first.now + length second.now < length out.old }
-    ensures { Adds (ended (first.now ++ second.now)) at out.entry out.exit result }
+fn line(out: &mut [u8], first: &[u8], second: &[u8]) -> usize
+    requires { length first.now + length second.now < length out.old }
+    ensures { Writes (ended (first.now ++ second.now)) out.entry out.exit result }
 {
-    let next = add(out, at, first);
-    last(out, next, second)
+    let n = first.len();
+    out[..n].copy_from_slice(first);
+    n + last(&mut out[n..], second)
 }
 
 // Writes a text and a newline.
-fn last(out: &mut [u8], at: usize, text: &[u8]) -> usize
-    requires { at + length text.now < length out.old }
-    ensures { Adds (ended text.now) at out.entry out.exit result }
+fn last(out: &mut [u8], text: &[u8]) -> usize
+    requires { length text.now < length out.old }
+    ensures { Writes (ended text.now) out.entry out.exit result }
 {
-    let end = add(out, at, text);
-    out[end] = b'\n';
-    end + 1
-}
-
-// Writes a text.
-fn add(out: &mut [u8], at: usize, text: &[u8]) -> usize
-    requires { at + length text.now ≤ length out.old }
-    ensures { Adds text.now at out.entry out.exit result }
-{
-    copy::copy(out, at, text);
-    at + text.len()
+    let n = text.len();
+    out[..n].copy_from_slice(text);
+    out[n] = b'\n';
+    n + 1
 }

@@ -3,7 +3,7 @@
 -- Assumes nothing.
 use Rattle.std.specs.Prelude.{ℕ, Bool, true, false, cond, List, ltb, Result, Ok, Err}
 use Rattle.errno.specs.declared.Errno.{Errno}
-use Rattle.errno.specs.declared.Errno.TheVariants.{Enoent}
+use Rattle.errno.specs.declared.Errno.TheVariants.{Ebusy, Einval, Enoent}
 use Rattle.rules.specs.declared.Id.{Id}
 use Rattle.rules.specs.State.{Devices, slots}
 use Rattle.rules.specs.Commands.{slot_of}
@@ -28,7 +28,11 @@ abbrev pub as_wanted : {A : Type 0} → Bool → Bool → A → A → A
 as_wanted true o a b = cond o a b
 as_wanted false o a b = cond o b a
 
--- the slot of the device with an id, which is open as wanted: ENOENT, then e
-unfoldable pub slot_if : Id → Bool → Errno → Devices → Result ℕ Errno
-slot_if i wanted e vs =
-    cond (ltb (slot_of i vs) slots) (as_wanted wanted (vs (slot_of i vs)).is_open (Ok (slot_of i vs)) (Err e)) (Err Enoent)
+-- the refusal of a device that is not as wanted: EINVAL where it is not open, EBUSY where it is
+abbrev pub denial : Bool → Errno
+denial wanted = cond wanted Einval Ebusy
+
+-- the slot of the device with an id, which is open as wanted: ENOENT, then the denial
+unfoldable pub slot_if : Id → Bool → Devices → Result ℕ Errno
+slot_if i wanted vs =
+    cond (ltb (slot_of i vs) slots) (as_wanted wanted (vs (slot_of i vs)).is_open (Ok (slot_of i vs)) (Err (denial wanted))) (Err Enoent)

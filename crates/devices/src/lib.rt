@@ -17,7 +17,7 @@ pub fn remove(words: &mut Words, id: Id) -> Answer
     ensures { Obeys (remove id) (removed id) words.entry words.exit result }
 {
     layout::hold_words(words);
-    let freed = slot_if(words, id, false, Errno::Ebusy)?;
+    let freed = slot_if(words, id, false)?;
     store::put_device(words, freed, false, Id { hi: 0, lo: 0 });
     Ok(())
 }
@@ -26,7 +26,7 @@ pub fn open(words: &mut Words, id: Id) -> Answer
     ensures { Obeys (open_device id) (opened id) words.entry words.exit result }
 {
     layout::hold_words(words);
-    let slot = slot_if(words, id, false, Errno::Ebusy)?;
+    let slot = slot_if(words, id, false)?;
     store::put_open(words, slot, true);
     Ok(())
 }
@@ -35,18 +35,18 @@ pub fn close(words: &mut Words, id: Id) -> Answer
     ensures { Obeys (close_device id) (closed id) words.entry words.exit result }
 {
     layout::hold_words(words);
-    let slot = slot_if(words, id, true, Errno::Einval)?;
+    let slot = slot_if(words, id, true)?;
     store::put_open(words, slot, false);
     Ok(())
 }
 
-// The slot of the device with an id, if it is open, or not, as wanted; otherwise it is refused.
-fn slot_if(words: &Words, id: Id, wanted: bool, otherwise: Errno) -> Result<usize, Errno>
-    ensures { result ≡ slot_if id wanted otherwise (devices words.entry) }
+// The slot of the device with an id, if it is open, or not, as wanted. An open one is refused as busy.
+fn slot_if(words: &Words, id: Id, wanted: bool) -> Result<usize, Errno>
+    ensures { result ≡ slot_if id wanted (devices words.entry) }
 {
     let slot = lookup::find(words, id).ok_or(Errno::Enoent)?;
     if record::is_open(words, slot) != wanted {
-        return Err(otherwise);
+        return Err(if wanted { Errno::Einval } else { Errno::Ebusy });
     }
     Ok(slot)
 }

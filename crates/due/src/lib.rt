@@ -17,12 +17,12 @@ use targetrow::TargetRow;
 pub fn due_by(driver: Driver, target: Driver) -> u32
     ensures { result ≡ due driver target }
 {
-    if driver == target {
-        0
-    } else if driver == Driver::Unbound || target == Driver::Unbound {
-        1
-    } else {
-        2
+    match (driver, target) {
+        (Driver::Unbound, Driver::Unbound)
+        | (Driver::Host, Driver::Host)
+        | (Driver::Passthrough, Driver::Passthrough) => 0,
+        (Driver::Unbound, _) | (_, Driver::Unbound) => 1,
+        _ => 2,
     }
 }
 

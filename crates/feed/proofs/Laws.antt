@@ -2,11 +2,14 @@
 -- Assumes nothing.
 use Prim.Native.Nat.{ℕ, ◌+◌, ◌-◌, ◌*◌, ◌≤◌, ◌<◌, min}
 use native.Mathlib.Omega.{arith}
+use native.Mathlib.Nat.{zero-add}
 use mathlib.Core.Bool.{Bool, cond}
-use mathlib.Core.List.{List, [], ◌∷◌, ◌++◌}
+use mathlib.Core.List.{List, [], ◌∷◌, ◌++◌, append-nil, append_assoc}
 use mathlib.Core.Path.{◌≡◌, refl, sym, ap, ap₂, subst, ◌∙◌}
-use lib.ListN.{length, take, drop}
-use lib.Seq.{paste, length-paste, length-take-le, take-take}
+use lib.ListN.{length, take, drop, length-drop}
+use lib.Seq.{paste, length-paste, length-take-le, drop-drop}
+use borrow.Rule.Slice.PartMut.{put_mid}
+use Rattle.std.proofs.lemmas.List.{take_rest, drop_all}
 use borrow.Author.Tests.{le-leb}
 use Rattle.errno.specs.Outcome.{Outcome}
 use Rattle.rules.specs.Commands.{Answer}
@@ -15,8 +18,6 @@ use Rattle.layout.specs.Carried.{Memory}
 use Rattle.calls.specs.Calls.{Freshened, begins}
 use Rattle.encoding.specs.Encoding.{Request}
 use Rattle.run.proofs.Laws.{made}
-use Rattle.copy.specs.Copied.{copied}
-use Rattle.copy.proofs.Laws.{copied_as}
 use Rattle.answerline.specs.declared.Said.{Said}
 use Rattle.answerline.specs.Answers.{said_line, longest, Put}
 use Rattle.answerline.proofs.Laws.{said_short}
@@ -116,11 +117,22 @@ module _ {part : List ℕ} {from w : ℕ} {out₀ out : List ℕ} {m₀ m : Memo
 
 -- ---- a part
 
-pub join_copied : (buffer : List ℕ) (at : ℕ) (bytes : List ℕ) {n : ℕ} → length buffer ≡ most_kept → at ≤ most_kept → n ≡ min (length bytes) (most_kept - at)
-    → copied buffer at (take n bytes) ≡ joined_at buffer at bytes
-join_copied buffer at bytes {n} b h e =
-    copied_as buffer at n refl (length-take-le n bytes (omega arith)) (omega arith)
-    ∙ ap (λ (l : List ℕ). take at buffer ++ l ++ drop (at + n) buffer) (take-take n n bytes (omega arith)) ∙ ap (paste buffer at bytes) e
+-- bytes that fill the rest of a buffer are joined at its index
+pub rest_filled : (buffer : List ℕ) (at : ℕ) (bytes : List ℕ) {room : List ℕ} {r : ℕ} → length buffer ≡ most_kept → at ≤ most_kept
+    → r ≡ min (length bytes) (length (take (length buffer - at) (drop at buffer)))
+    → room ≡ take r bytes ++ drop r (take (length buffer - at) (drop at buffer))
+    → (at + r ≡ at + min (length bytes) (most_kept - at)) × (put_mid at (length buffer - at) buffer room ≡ joined_at buffer at bytes)
+rest_filled buffer at bytes {room} {r} b h e w =
+    let past = drop_all (length buffer - at) (drop at buffer) (omega (arith, length-drop at buffer)) in
+    let n : r ≡ min (length bytes) (most_kept - at) = omega (arith, e, ap length (take_rest buffer at), length-drop at buffer) in
+    (ap (λ (k : ℕ). at + k) n, rw (w, take_rest buffer at, past, ← n) (simp (append-nil, append_assoc, drop-drop)))
+
+-- those that fill a buffer are joined at its start
+all_filled : (buffer bytes : List ℕ) {r : ℕ} → length buffer ≡ most_kept → r ≡ min (length bytes) (length buffer)
+    → (r ≡ 0 + min (length bytes) (most_kept - 0)) × (take r bytes ++ drop r buffer ≡ joined_at buffer 0 bytes)
+all_filled buffer bytes {r} b e =
+    let n : r ≡ min (length bytes) (most_kept - 0) = omega (arith, e, b) in
+    (omega (arith, n), rw (← n) (simp zero-add))
 
 -- what is joined to what is held
 module _ (buffer bytes : List ℕ) {buffer' l : List ℕ} {n r : ℕ} (b : length buffer ≡ most_kept) (h : n ≤ most_kept) (er : r ≡ n + min (length bytes) (most_kept - n))
@@ -159,7 +171,7 @@ module _ (part buffer : List ℕ) {buffer₁ p : List ℕ} {n e joined : ℕ} (b
   -- a newline ends the line that is held, others may follow, and another is begun
   pub part_ended : {buffer₂ out out₁ out₂ : List ℕ} {m m₁ m₂ : Memory} {w held : ℕ} {d : Reached} → e < length part → longest * length part ≤ length out
       → One (line_request (take joined buffer₁)) 0 out out₁ m m₁ w → Going part (e + 1) w out₁ out₂ m₁ m₂ d
-      → held ≡ 0 + min (length (drop d.at part)) (most_kept - 0) → buffer₂ ≡ joined_at buffer₁ 0 (drop d.at part)
+      → held ≡ min (length (drop d.at part)) (length buffer₁) → buffer₂ ≡ take held (drop d.at part) ++ drop held buffer₁
       → Part n part buffer buffer₂ out out₂ m m₂ (record { taken = length part; written = d.written; held = held })
   unfolding onto
   part_ended {buffer₂} {out} {m = m} {m₂ = m₂} {d = d} l room one go eh eb₂ =
@@ -170,12 +182,14 @@ module _ (part buffer : List ℕ) {buffer₁ p : List ℕ} {n e joined : ℕ} (b
       let first : line_request (take joined buffer₁) ≡ line_request (take n buffer ++ p) = ap line_request (join_line buffer p b h ej eb refl) ∙ kept_same (take n buffer ++ p) in
       let begun : drop d.at part ≡ unfinished (pieces n buffer part) = go.rest ∙ sym (ap unfinished ps ∙ unfinished_cons (take n buffer ++ p) rest some) in
       let long = join_length buffer p b h ej eb refl in
+      let filled = all_filled buffer₁ (drop d.at part) long eh in
+      let joined₂ = eb₂ ∙ filled.1 in
       record {
         taken = refl;
         done = done_as (ap read_as (ap finished ps ∙ finished_cons (take n buffer ++ p) rest some)) (one_more (one_as (sym first) one) (omega arith) go.done);
-        held = join_held buffer₁ (drop d.at part) long (omega arith) eh eb₂ begun;
-        line = join_line buffer₁ (drop d.at part) long (omega arith) eh eb₂ begun;
-        bytes = eb₂ ∙ ap₂ (λ (x y : List ℕ). joined_at x 0 y) eb begun
+        held = join_held buffer₁ (drop d.at part) long (omega arith) filled.0 joined₂ begun;
+        line = join_line buffer₁ (drop d.at part) long (omega arith) filled.0 joined₂ begun;
+        bytes = joined₂ ∙ ap₂ (λ (x y : List ℕ). joined_at x 0 y) eb begun
             ∙ sym (ap (buffer_after buffer n) all ∙ buffer_more buffer n p rest some ∙ ap (joined_at (joined_at buffer n p) 0) (sym (ap unfinished ps ∙ unfinished_cons (take n buffer ++ p) rest some)));
       }
 

@@ -1,15 +1,15 @@
 // Takes the input of the console part by part, as it comes: the lines that a part ends are carried out and answered, and what it
 // begins is kept.
 //
-// Rests on errno, rules, layout, setup, model, calls, encoding, request, run, served, split, copy, answerline, wordtext, linewords,
-// linetext and consoleline.
+// Rests on errno, rules, layout, setup, model, calls, encoding, request, run, served, split, answerline, wordtext, linewords, linetext
+// and consoleline.
 #![tactic(auto)]
 
-ghost use Rattle.std.specs.Prelude.{◌≡◌, ◌+◌, ◌-◌, ◌*◌, ◌≤◌, min, length, take};
+ghost use Rattle.std.specs.Prelude.{◌≡◌, ◌+◌, ◌-◌, ◌*◌, ◌≤◌, ◌++◌, min, length, take, drop};
 ghost use Rattle.answerline.specs.Answers.{longest};
 ghost use Rattle.linetext.specs.Lines.{piece_request, line_request};
 ghost use Rattle.feed.specs.Input.{most_kept};
-ghost use Rattle.feed.specs.Feeding.{joined_at, Begins, Feeds, Parts, Ends, Goes, OneDone};
+ghost use Rattle.feed.specs.Feeding.{Begins, Feeds, Parts, Ends, Goes, OneDone};
 
 use answerline::LONGEST;
 use layout::{Drivers, Words};
@@ -60,6 +60,7 @@ pub fn feed(
 }
 
 // Ends the input: a line that is held counts unless it is empty.
+#[tactic(auto, using(crate::proofs::Laws::ends_short, crate::proofs::Laws::ends_none, crate::proofs::Laws::ends_line))]
 pub fn finish(
     words: &mut Words,
     drivers: &mut Drivers,
@@ -75,14 +76,15 @@ pub fn finish(
     if held == 0 {
         return 0;
     }
-    last(words, drivers, line, held.min(KEPT), out)
+    last(words, drivers, &line[..held.min(KEPT)], out)
 }
 
-fn last(words: &mut Words, drivers: &mut Drivers, line: &[u8], held: usize, out: &mut [u8]) -> usize
-    requires { (held ≤ length line.now) × (longest ≤ length out.old) }
-    ensures { OneDone (line_request (take held line.now)) 0 out words drivers result }
+// Carries out a line that is held.
+fn last(words: &mut Words, drivers: &mut Drivers, line: &[u8], out: &mut [u8]) -> usize
+    requires { longest ≤ length out.old }
+    ensures { OneDone (line_request line.now) 0 out words drivers result }
 {
-    let said = consoleline::obey(words, drivers, &line[..held]);
+    let said = consoleline::obey(words, drivers, line);
     answerline::put(out, 0, said)
 }
 
@@ -100,7 +102,7 @@ fn take_part(
 {
     let first = split::piece(part, 0, b'\n');
     let e = first.len();
-    let joined = join(line, held, first);
+    let joined = held + fill(&mut line[held..], first);
     if part.len() <= e {
         return Fed {
             taken: part.len(),
@@ -108,10 +110,9 @@ fn take_part(
             held: joined,
         };
     }
-    let w = last(words, drivers, line, joined, out);
+    let w = last(words, drivers, &line[..joined], out);
     let done = lines(words, drivers, part, e + 1, out, w);
-    let at = done.at;
-    let kept = join(line, 0, &part[at..]);
+    let kept = fill(line, &part[done.at..]);
     Fed {
         taken: part.len(),
         written: done.written,
@@ -119,15 +120,14 @@ fn take_part(
     }
 }
 
-// Joins bytes to what is held, as many as there is room for, and gives how many are held then.
-fn join(line: &mut [u8], held: usize, bytes: &[u8]) -> usize
-    requires { (length line.old ≡ most_kept) × (held ≤ most_kept) }
-    ensures value { result ≡ held + min (length bytes.now) (most_kept - held) }
-    ensures line_after { line.new ≡ joined_at line.old held bytes.now }
+// Copies as many bytes as there is room for, and gives how many.
+fn fill(room: &mut [u8], bytes: &[u8]) -> usize
+    ensures value { result ≡ min (length bytes.now) (length room.old) }
+    ensures room_after { room.new ≡ take result bytes.now ++ drop result room.old }
 {
-    let n = bytes.len().min(KEPT - held);
-    copy::copy(line, held, &bytes[..n]);
-    held + n
+    let n = bytes.len().min(room.len());
+    room[..n].copy_from_slice(&bytes[..n]);
+    n
 }
 
 // Carries out the lines of a part from an index on, as far as a newline ends them.

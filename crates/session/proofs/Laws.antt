@@ -10,6 +10,7 @@ use Rattle.layout.specs.Carried.{Memory}
 use Rattle.feed.specs.declared.Fed.{Fed}
 use Rattle.feed.specs.Input.{unfinished, most_kept, kept, Taken}
 use Rattle.feed.specs.Feeding.{pieces, taken_of, Feeding}
+use Rattle.session.specs.declared.Line.{Line}
 use Rattle.session.specs.Sessions.{Passed}
 
 held_least : {n : ℕ} {part buffer buffer' out out' : List ℕ} {m m' : Memory} {r : Fed} → Feeding n part buffer buffer' out out' m m' r → r.held ≤ most_kept
@@ -18,25 +19,20 @@ held_least {n} {part} {buffer} {out = out} f =
     let l = unfinished (pieces (min n most_kept) buffer (take (taken_of part out) part)) in
     omega (arith, f.all.held, length-take most_kept l)
 
-pub passed_fed : {n : ℕ} {part buffer buffer' out out' : List ℕ} {m m' : Memory} {r : Fed} → Feeding n part buffer buffer' out out' m m' r → Passed n buffer buffer' m m' r.held
-passed_fed {n} {part} {buffer} {buffer'} {out} {out'} {m} {m'} {r} f =
+pub passed_fed : {part buffer' out out' : List ℕ} {line : Line} {m m' : Memory} {r : Fed} → Feeding line.held part line.bytes buffer' out out' m m' r
+    → Passed line (record { bytes = buffer'; held = r.held }) m m'
+passed_fed {part} {buffer'} {out} {out'} {m' = m'} {r} f =
     let least : r.held ≡ min r.held most_kept = omega (arith, held_least f) in
     let new = take (taken_of part out) part in
     let text = take r.written out' in
     record { goes = λ l bytes before t. (new, (text, subst (λ (k : ℕ). Taken l (bytes ++ new) (before ++ text) m' (take k buffer')) least (f.input l bytes before t))) }
 
-pub passed_then : {n k r : ℕ} {a b c : List ℕ} {m₀ m₁ m₂ : Memory} → Passed n a b m₀ m₁ k → Passed k b c m₁ m₂ r → Passed n a c m₀ m₂ r
-passed_then {n} {k} {r} {a} {b} {c} {m₀} {m₁} {m₂} f g = record { goes = go }
+pub passed_then : {a b c : Line} {m₀ m₁ m₂ : Memory} → Passed a b m₀ m₁ → Passed b c m₁ m₂ → Passed a c m₀ m₂
+passed_then {a} {b} {c} {m₀} {m₁} {m₂} f g = record { goes = go }
   where
-    go : (l : Limits) (bytes before : List ℕ) → Taken l bytes before m₀ (take (min n most_kept) a)
-        → (part : List ℕ) × ((text : List ℕ) × Taken l (bytes ++ part) (before ++ text) m₂ (take (min r most_kept) c))
+    go : (l : Limits) (bytes before : List ℕ) → Taken l bytes before m₀ (take (min a.held most_kept) a.bytes)
+        → (part : List ℕ) × ((text : List ℕ) × Taken l (bytes ++ part) (before ++ text) m₂ (take (min c.held most_kept) c.bytes))
     go l bytes before t =
         let x = f.goes l bytes before t in
-        let y = g.goes l (bytes ++ x.0) (before ++ x.1.0) x.1.1 in (
-          x.0 ++ y.0,
-          (
-            x.1.0 ++ y.1.0,
-            subst (λ (q : List ℕ). Taken l q (before ++ (x.1.0 ++ y.1.0)) m₂ (take (min r most_kept) c)) (append_assoc bytes x.0 y.0)
-                (subst (λ (q : List ℕ). Taken l ((bytes ++ x.0) ++ y.0) q m₂ (take (min r most_kept) c)) (append_assoc before x.1.0 y.1.0) y.1.1),
-          ),
-        )
+        let y = g.goes l (bytes ++ x.0) (before ++ x.1.0) x.1.1 in
+        (x.0 ++ y.0, (x.1.0 ++ y.1.0, rw (← append_assoc bytes x.0 y.0, ← append_assoc before x.1.0 y.1.0) y.1.1))

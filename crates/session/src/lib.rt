@@ -4,7 +4,7 @@
 // Rests on rules, layout, served, answerline and feed.
 #![tactic(auto)]
 
-ghost use Rattle.std.specs.Prelude.{◌≡◌, ℕ, ◌≤◌, length, MatchOption, MatchResult};
+ghost use Rattle.std.specs.Prelude.{◌≡◌, ◌≤◌, length};
 ghost use Rattle.session.specs.Room.{most, room};
 ghost use Rattle.session.specs.Sessions.{Passes};
 
@@ -20,11 +20,21 @@ pub const PART: usize = 4096;
 
 pub const OUT: usize = PART * LONGEST;
 
+// What is held of a line that no newline has ended.
+#[derive(Drop)]
+struct Line {
+    bytes: [u8; KEPT],
+    held: usize,
+}
+
 // Takes all of standard input. A read that fails ends the input, and a write that fails ends the session.
 pub fn play(rt: &(impl Input + Print)) {
     let mut words = [0u64; WORDS];
     let mut drivers = [0u8; QUEUES];
-    let mut line = [0u8; KEPT];
+    let mut line = Line {
+        bytes: [0u8; KEPT],
+        held: 0,
+    };
     let mut out = buffer();
     feed::begin(&mut words, &mut drivers);
     let mut input = rt.reader();
@@ -36,8 +46,8 @@ pub fn play(rt: &(impl Input + Print)) {
         &mut line,
         &mut out,
     );
-    if let Ok(held) = taken {
-        end(rt, &mut words, &mut drivers, &line, held, &mut out);
+    if taken.is_ok() {
+        end(rt, &mut words, &mut drivers, &line, &mut out);
     }
 }
 
@@ -47,81 +57,71 @@ fn buffer() -> [u8; OUT]
     [0u8; OUT]
 }
 
-// Takes the input to its end, and gives how many bytes are held then.
+// Takes the input to its end.
+#[tactic(auto, using(crate::proofs::Laws::passed_then))]
 fn take_all(
     input: &mut impl Read,
     rt: &impl Print,
     words: &mut Words,
     drivers: &mut Drivers,
-    line: &mut [u8; KEPT],
+    line: &mut Line,
     out: &mut [u8],
-) -> io::Result<usize>
+) -> io::Result<()>
     requires { length out.old ≡ room }
-    ensures { MatchResult result (λ h. Passes 0 line words drivers h) (λ _. (h : ℕ) × Passes 0 line words drivers h) }
+    ensures { Passes line.old line.new words drivers }
 {
-    let mut held = 0usize;
     // A loop has to end, and nothing says that an input does: no run uses this number up.
     for _ in 0..u64::MAX {
-        match turn(input, rt, words, drivers, line, held, out)? {
-            Some(n) => held = n,
-            None => return Ok(held),
+        if !turn(input, rt, words, drivers, line, out)? {
+            break;
         }
     }
-    Ok(held)
+    Ok(())
 }
 
-// Reads what there is, answers the lines that it ends, and gives how many bytes are held then: none where the input has ended.
+// Reads what there is, answers the lines that it ends, and tells whether the input goes on.
 fn turn(
     input: &mut impl Read,
     rt: &impl Print,
     words: &mut Words,
     drivers: &mut Drivers,
-    line: &mut [u8; KEPT],
-    held: usize,
+    line: &mut Line,
     out: &mut [u8],
-) -> io::Result<Option<usize>>
+) -> io::Result<bool>
     requires { length out.old ≡ room }
-    ensures { MatchResult result
-        (λ o. MatchOption o (Passes held line words drivers held) (λ h. Passes held line words drivers h))
-        (λ _. (h : ℕ) × Passes held line words drivers h) }
+    ensures { Passes line.old line.new words drivers }
 {
     let mut part = [0u8; PART];
     let n = input.read(&mut part).unwrap_or(0);
     if n == 0 {
-        return Ok(None);
+        return Ok(false);
     }
-    let fed = take(words, drivers, line, held, &part[..n], out);
-    let written = fed.written;
-    rt.write_all(&out[..written])?;
-    Ok(Some(fed.held))
+    let fed = take(words, drivers, line, &part[..n], out);
+    rt.write_all(&out[..fed.written])?;
+    Ok(true)
 }
 
 // Has a part taken: all of it, and there is room for the answers.
 fn take(
     words: &mut Words,
     drivers: &mut Drivers,
-    line: &mut [u8; KEPT],
-    held: usize,
+    line: &mut Line,
     part: &[u8],
     out: &mut [u8],
 ) -> Fed
     requires { (length part.now ≤ most) × (length out.old ≡ room) }
     ensures taken_value { result.taken ≡ length part.now }
     ensures written_in_bounds { result.written ≤ length out.new }
-    ensures passes { Passes held line words drivers result.held }
+    ensures held_value { result.held ≡ line.new.held }
+    ensures passes { Passes line.old line.new words drivers }
 {
-    feed::feed(words, drivers, line, held, part, out)
+    let fed = feed::feed(words, drivers, &mut line.bytes, line.held, part, out);
+    line.held = fed.held;
+    fed
 }
 
 // Answers a last line that no newline ended.
-fn end(
-    rt: &impl Print,
-    words: &mut Words,
-    drivers: &mut Drivers,
-    line: &[u8; KEPT],
-    held: usize,
-    out: &mut [u8],
-) {
-    let n = feed::finish(words, drivers, line, held, out);
+fn end(rt: &impl Print, words: &mut Words, drivers: &mut Drivers, line: &Line, out: &mut [u8]) {
+    let n = feed::finish(words, drivers, &line.bytes, line.held, out);
     let _ = rt.write_all(&out[..n]);
 }

@@ -1,7 +1,6 @@
 -- `open` meets its contract: a refusal of the check, or the effect.
 use Rattle.std.proofs.Common.{ℕ, List, true, false, sym, ap, ◌∙◌}
 use Rattle.std.proofs.lemmas.Result.{err_from_is_err_and}
-use Rattle.errno.specs.declared.Errno.TheVariants.{Ebusy}
 use Rattle.rules.specs.State.{State}
 use Rattle.rules.specs.Commands.{open_device, with_device, with_open}
 use Rattle.layout.specs.Layout.{device_in, state_in, put_open}
@@ -21,14 +20,14 @@ returns-in_err-slot c =
     let p = err_from_is_err_and c.from_residual.result c.from_residual.ensures.1 in
     rw p.1
     (refused_carried (open_device a.id) (opened a.id) a.words.now p.0
-    (λ qs. check_refused a.id false Ebusy a.words.now qs (next a.words.now qs) (rw p.2 c.in_err-slot.ensures)))
+    (λ qs. check_refused a.id false a.words.now qs (next a.words.now qs) (rw p.2 c.in_err-slot.ensures)))
 
 pub returns : goal.returns
 unfolding open_device state_in
 returns c =
     let a = c.args in
     let ws = a.words.now in
-    let passed = λ (qs : List ℕ). check_passed a.id false Ebusy ws qs (next ws qs) c.in_ok-slot.ensures in
+    let passed = λ (qs : List ℕ). check_passed a.id false ws qs (next ws qs) c.in_ok-slot.ensures in
     let at = (passed ws).1 in
     let put : ℕ → List ℕ = λ k. put_open ws k true in
     done_carried (open_device a.id) (opened a.id) ws (λ qs. next ws qs c.in_ok-slot.slot) (c.put_open.ensures ∙ ap put at) (λ qs. (passed qs).2)

@@ -1,7 +1,6 @@
 -- `remove` meets its contract: a refusal of the check, or the effect.
 use Rattle.std.proofs.Common.{ℕ, List, false, sym, ap, ◌∙◌}
 use Rattle.std.proofs.lemmas.Result.{err_from_is_err_and}
-use Rattle.errno.specs.declared.Errno.TheVariants.{Ebusy}
 use Rattle.rules.specs.State.{State, no_device}
 use Rattle.rules.specs.Commands.{remove, with_device}
 use Rattle.layout.specs.Layout.{state_in, put_device, no_id}
@@ -21,14 +20,14 @@ returns-in_err-freed c =
     let p = err_from_is_err_and c.from_residual.result c.from_residual.ensures.1 in
     rw p.1
     (refused_carried (remove a.id) (removed a.id) a.words.now p.0
-    (λ qs. check_refused a.id false Ebusy a.words.now qs (next a.words.now qs) (rw p.2 c.in_err-freed.ensures)))
+    (λ qs. check_refused a.id false a.words.now qs (next a.words.now qs) (rw p.2 c.in_err-freed.ensures)))
 
 pub returns : goal.returns
 unfolding remove state_in
 returns c =
     let a = c.args in
     let ws = a.words.now in
-    let passed = λ (qs : List ℕ). check_passed a.id false Ebusy ws qs (next ws qs) c.in_ok-freed.ensures in
+    let passed = λ (qs : List ℕ). check_passed a.id false ws qs (next ws qs) c.in_ok-freed.ensures in
     let at = (passed ws).1 in
     let put : ℕ → List ℕ = λ k. put_device ws k false no_id in
     done_carried (remove a.id) (removed a.id) ws (λ qs. next ws qs c.in_ok-freed.freed) (c.put_device.ensures ∙ ap put at) (λ qs. (passed qs).2)

@@ -3,4 +3,4 @@ use Rattle.session.proofs.Laws.{passed_fed}
 use Rattle.session.proofs.take.Goals as goal
 
 pub returns-clause-passes : goal.returns-clause-passes
-returns-clause-passes c = passed_fed c.feed.ensures
+returns-clause-passes c = passed_fed c.feed-fed.ensures

@@ -4,4 +4,4 @@ use Rattle.session.specs.Sessions.{Passed}
 use Rattle.session.proofs.take_all.Given as goal
 
 abbrev pub invariant-loop : goal.invariant-loop
-invariant-loop g l = Passed 0 l.initial.line l.line (memory l.initial.words l.initial.drivers) (memory l.words l.drivers) l.held
+invariant-loop g l = Passed l.initial.line l.line (memory l.initial.words l.initial.drivers) (memory l.words l.drivers)
