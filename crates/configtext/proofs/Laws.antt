@@ -1,13 +1,13 @@
 -- Words of a configuration that are good, and the first that is bad.
 -- Assumes nothing.
-use Prim.Native.Nat.{ℕ, ◌+◌, ◌≤◌, ◌<◌}
+use Prim.Native.Nat.{ℕ}
 use native.Mathlib.Omega.{arith}
 use mathlib.Core.Bool.{Bool, true, false, cond}
 use mathlib.Core.List.{List, [], ◌∷◌}
-use mathlib.Core.Path.{◌≡◌, sym, ap, ◌∙◌}
-use lib.ListN.{length, drop}
+use mathlib.Core.Path.{◌≡◌, refl, sym, ap, ◌∙◌}
+use lib.ListN.{length}
 use borrow.Author.Tests.{ne_eqb}
-use Rattle.errno.specs.Outcome.{Outcome, granted, refused}
+use Rattle.errno.specs.Outcome.{granted, refused}
 use Rattle.errno.specs.declared.Errno.{Errno}
 use Rattle.errno.specs.declared.Errno.TheVariants.{Einval}
 use Rattle.mask.specs.declared.Mask.{Mask}
@@ -15,9 +15,6 @@ use Rattle.mask.specs.Bits.{Sized, Bits, bits, no_bits}
 use Rattle.mask.proofs.Laws.{numbers_of_bits}
 use Rattle.digits.specs.Digits.{starts_hex}
 use Rattle.masktext.specs.Text.{mask_text}
-use Rattle.rules.specs.declared.Configuration.{Configuration}
-use Rattle.split.specs.Cut.{cut, end_from, piece_from}
-use Rattle.split.proofs.Laws.{cut_next, cut_end, cut_some, cut_one, cut_two, cut_three}
 use Rattle.hexbytes.specs.HexBytes.{types_text}
 use Rattle.configtext.specs.ConfigText.{when_good, hex_text, mask_with, four_text, config_text}
 
@@ -38,11 +35,6 @@ unfolding hex_text
 hex_not w e h = sym (ap (λ (t : Bool). cond t (mask_text w no_bits) (refused Einval)) (sym e ∙ h))
 
 -- ---- four words, judged from the left
-
--- the words that were handed on
-pub reads_as : {o x : Outcome Configuration} {a d c t a' d' c' t' : List ℕ} → o ≡ four_text a d c t → a' ≡ a → d' ≡ d → c' ≡ c → t' ≡ t
-    → x ≡ four_text a' d' c' t' → x ≡ o
-reads_as e ea ed ec et h = h ∙ (λ i. four_text (ea i) (ed i) (ec i) (et i)) ∙ sym e
 
 module _ (a d c t : List ℕ) where
   pub first_bad : {n : Errno} → refused n ≡ hex_text a → refused n ≡ four_text a d c t
@@ -72,37 +64,28 @@ module _ (a d c t : List ℕ) where
 
 -- ---- how many words
 
-wrong : (ws : List (List ℕ)) → (length ws ≡ 4 → ⊥) → config_text ws ≡ refused Einval
+pub no_word : config_text [] ≡ refused Einval
 unfolding config_text
-wrong ws h = rw (ne_eqb (length ws) 4 h)
+no_word = refl
 
--- the word of s from an index on
-abbrev word : List ℕ → ℕ → List ℕ
-word s i = piece_from 32 i s
+pub one_word : (a : List ℕ) → config_text (a ∷ []) ≡ refused Einval
+unfolding config_text
+one_word a = refl
 
-module _ (s : List ℕ) {a : ℕ} (qa : a ≡ end_from 32 0 s) where
-  pub one_word : length s ≤ a → config_text (cut 32 s) ≡ refused Einval
-  one_word l = ap config_text (cut_end 32 0 s qa (omega arith) l).0 ∙ wrong (word s 0 ∷ []) (λ e. omega arith)
+pub two_words : (a d : List ℕ) → config_text (a ∷ d ∷ []) ≡ refused Einval
+unfolding config_text
+two_words a d = refl
 
-  module _ {b : ℕ} (la : a < length s) (qb : b ≡ end_from 32 (a + 1) s) where
-    pub two_words : length s ≤ b → config_text (cut 32 s) ≡ refused Einval
-    two_words l =
-        ap config_text (cut_one 32 s qa la ∙ ap (λ (ws : List (List ℕ)). word s 0 ∷ ws) (cut_end 32 (a + 1) s qb (omega arith) l).0)
-        ∙ wrong (word s 0 ∷ word s (a + 1) ∷ []) (λ e. omega arith)
+pub three_words : (a d c : List ℕ) → config_text (a ∷ d ∷ c ∷ []) ≡ refused Einval
+unfolding config_text
+three_words a d c = refl
 
-    module _ {c : ℕ} (lb : b < length s) (qc : c ≡ end_from 32 (b + 1) s) where
-      pub three_words : length s ≤ c → config_text (cut 32 s) ≡ refused Einval
-      three_words l =
-          ap config_text (cut_two 32 s qa la qb lb ∙ ap (λ (ws : List (List ℕ)). word s 0 ∷ word s (a + 1) ∷ ws) (cut_end 32 (b + 1) s qc (omega arith) l).0)
-          ∙ wrong (word s 0 ∷ word s (a + 1) ∷ word s (b + 1) ∷ []) (λ e. omega arith)
+pub four_words : (a d c t : List ℕ) → config_text (a ∷ d ∷ c ∷ t ∷ []) ≡ four_text a d c t
+unfolding config_text
+four_words a d c t = refl
 
-      module _ {d : ℕ} (lc : c < length s) (qd : d ≡ end_from 32 (c + 1) s) where
-        pub many_words : d < length s → config_text (cut 32 s) ≡ refused Einval
-        many_words l =
-            ap config_text (cut_three 32 s qa la qb lb qc lc ∙ ap (λ (ws : List (List ℕ)). word s 0 ∷ word s (a + 1) ∷ word s (b + 1) ∷ ws) (cut_next 32 (c + 1) s qd (omega arith) l))
-            ∙ wrong (word s 0 ∷ word s (a + 1) ∷ word s (b + 1) ∷ word s (c + 1) ∷ cut 32 (drop (d + 1) s)) (λ e. omega (arith, cut_some 32 (drop (d + 1) s)))
+pub more_words : (a d c t x : List ℕ) (xs : List (List ℕ)) → config_text (a ∷ d ∷ c ∷ t ∷ x ∷ xs) ≡ refused Einval
+unfolding config_text
+more_words a d c t x xs = rw (ne_eqb (length (a ∷ d ∷ c ∷ t ∷ x ∷ xs)) 4 (λ e. omega arith))
 
-        pub four_words : length s ≤ d → config_text (cut 32 s) ≡ four_text (word s 0) (word s (a + 1)) (word s (b + 1)) (word s (c + 1))
-        unfolding config_text
-        four_words l =
-            ap config_text (cut_three 32 s qa la qb lb qc lc ∙ ap (λ (ws : List (List ℕ)). word s 0 ∷ word s (a + 1) ∷ word s (b + 1) ∷ ws) (cut_end 32 (c + 1) s qd (omega arith) l).0)
+pub ruleset counted = (no_word, one_word, two_words, three_words, four_words, more_words)

@@ -10,33 +10,28 @@ ghost use Rattle.split.specs.Cut.{cut};
 ghost use Rattle.configtext.specs.ConfigText.{hex_text, four_text, config_text};
 
 use errno::Errno;
+use linereader::LineReader;
 use mask::Mask;
 use rules::Configuration;
 
 // The configuration of four words, parted by one space each.
+#[tactic(auto, using(linereader::proofs::Laws::from_start, crate::proofs::Laws::counted), unfolding(errno::specs::Outcome::outcome))]
 pub fn read(text: &[u8]) -> Result<Configuration, Errno>
     ensures { outcome result ≡ config_text (cut 32 text.now) }
 {
-    let adapters = linereader::word_at(text, 0);
-    let a = adapters.len();
-    if text.len() <= a {
-        return Err(Errno::Einval);
+    let mut words = LineReader::new(text, 0);
+    match (
+        words.next(),
+        words.next(),
+        words.next(),
+        words.next(),
+        words.next(),
+    ) {
+        (Some(adapters), Some(domains), Some(controls), Some(types), None) => {
+            four(adapters, domains, controls, types)
+        }
+        _ => Err(Errno::Einval),
     }
-    let domains = linereader::word_at(text, a + 1);
-    let b = a + 1 + domains.len();
-    if text.len() <= b {
-        return Err(Errno::Einval);
-    }
-    let controls = linereader::word_at(text, b + 1);
-    let c = b + 1 + controls.len();
-    if text.len() <= c {
-        return Err(Errno::Einval);
-    }
-    let types = linereader::word_at(text, c + 1);
-    if c + 1 + types.len() < text.len() {
-        return Err(Errno::Einval);
-    }
-    four(adapters, domains, controls, types)
 }
 
 fn four(

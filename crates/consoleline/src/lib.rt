@@ -44,12 +44,10 @@ pub fn carry_out(words: &mut Words, drivers: &mut Drivers, read: Result<Request,
     ensures { Answers (asked read.entry) words drivers result }
 {
     match read {
-        Ok(request) => match request {
-            Request::Command(c) => command(words, drivers, c),
-            Request::Config(text) => configure(words, drivers, text),
-            Request::Move(queue) => make_move(words, drivers, queue),
-            Request::Sweep => make_sweep(words, drivers),
-        },
+        Ok(Request::Command(c)) => command(words, drivers, c),
+        Ok(Request::Config(text)) => configure(words, drivers, text),
+        Ok(Request::Move(queue)) => make_move(words, drivers, queue),
+        Ok(Request::Sweep) => make_sweep(words, drivers),
         Err(e) => Said::Refused(e),
     }
 }

@@ -3,8 +3,9 @@
 // Rests on split.
 #![tactic(auto)]
 
-ghost use Rattle.std.specs.Prelude.{◌≡◌};
+ghost use Rattle.std.specs.Prelude.{◌≡◌, [], ◌∷◌, drop, MatchOption};
 ghost use Rattle.split.specs.Cut.{piece_from};
+ghost use Rattle.linereader.specs.Words.{left};
 
 #[derive(Drop)]
 pub struct LineReader<'a> {
@@ -20,16 +21,32 @@ impl<'a> LineReader<'a> {
     }
 
     // The word that begins at the reader's place.
-    pub fn word(self) -> &'a [u8]
-        ensures { result.now ≡ piece_from 32 self.entry.at self.entry.line.now }
+    pub fn word(&self) -> &'a [u8]
+        ensures { result.now ≡ piece_from 32 self.now.at self.now.line.now }
     {
         split::piece(self.line, self.at, b' ')
     }
-}
 
-// The word that begins at a place of a line, for callers that have no reader.
-pub fn word_at(line: &[u8], at: usize) -> &[u8]
-    ensures { result.now ≡ piece_from 32 at line.now }
-{
-    LineReader::new(line, at).word()
+    // The word at the reader's place, which moves on to the next one; none past the end of the line.
+    pub fn next(&mut self) -> Option<&'a [u8]>
+        ensures word { MatchOption result (left self.old ≡ []) (λ w. left self.old ≡ w.now ∷ left self.new) }
+        ensures line { self.new.line ≡ self.old.line }
+    {
+        if self.line.len() < self.at {
+            return None;
+        }
+        let word = self.word();
+        self.at += word.len() + 1;
+        Some(word)
+    }
+
+    // The line from the reader's place on.
+    pub fn rest(&self) -> &'a [u8]
+        ensures { result.now ≡ drop self.now.at self.now.line.now }
+    {
+        match self.line.get(self.at..) {
+            Some(rest) => rest,
+            None => &[],
+        }
+    }
 }

@@ -10,6 +10,7 @@ ghost use Rattle.linetext.specs.Lines.{piece_request, line_request};
 ghost use Rattle.linetext.specs.Texts.{OnlyGood};
 
 use errno::Errno;
+use linereader::LineReader;
 use linewords::Request;
 
 // The most bytes of a line.
@@ -27,30 +28,21 @@ pub fn read_line<'a>(line: &'a [u8]) -> Result<Request<'a>, Errno>
 }
 
 // A piece of an input between newlines.
+#[tactic(auto, using(linereader::proofs::Laws::from_start, linereader::proofs::Laws::from_tells, crate::proofs::Laws::counted), unfolding(linewords::specs::Asked::asked))]
 pub fn read<'a>(line: &'a [u8]) -> Result<Request<'a>, Errno>
     ensures { asked result ≡ piece_request line.now }
 {
     if LINE_BYTES < line.len() {
         return Err(Errno::Einval);
     }
-    let w = linereader::word_at(line, 0);
-    let a = w.len();
-    if line.len() <= a {
-        return linewords::one(w);
+    let mut words = LineReader::new(line, 0);
+    let w = words.next().ok_or(Errno::Einval)?;
+    let rest = words.rest();
+    match (words.next(), words.next(), words.next(), words.next()) {
+        (None, ..) => linewords::one(w),
+        (Some(x), None, ..) => linewords::two(w, x),
+        (Some(x), Some(y), None, _) => linewords::three(w, x, y),
+        (Some(x), Some(y), Some(z), None) => linewords::four(w, x, y, z),
+        (Some(_), Some(_), Some(_), Some(_)) => linewords::many(w, rest),
     }
-    let x = linereader::word_at(line, a + 1);
-    let b = a + 1 + x.len();
-    if line.len() <= b {
-        return linewords::two(w, x);
-    }
-    let y = linereader::word_at(line, b + 1);
-    let c = b + 1 + y.len();
-    if line.len() <= c {
-        return linewords::three(w, x, y);
-    }
-    let z = linereader::word_at(line, c + 1);
-    if line.len() <= c + 1 + z.len() {
-        return linewords::four(w, x, y, z);
-    }
-    linewords::many(w, &line[a + 1..])
 }

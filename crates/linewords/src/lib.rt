@@ -1,7 +1,7 @@
 // The words of a console line, by how many there are: a command, a move, a sweep, or bad text.
 //
 // Rests on mask, errno, number, masktext, rules, model, encoding, split, hexbytes, configtext and wordtext.
-#![tactic(auto)]
+#![tactic(auto, using(wordtext::proofs::Laws::same_tells, wordtext::proofs::Laws::same_spelled, crate::proofs::Laws::asked_refused), unfolding(errno::specs::Ascii::ascii, errno::specs::Outcome::outcome, masktext::specs::Text::outcome, configtext::specs::ConfigText::when_good, encoding::specs::Meant::meant, crate::specs::Requests::by_words, crate::specs::Asked::asked))]
 
 ghost use Rattle.std.specs.Prelude.{◌≡◌, [], ◌∷◌, MatchResult};
 ghost use Rattle.mask.specs.Bits.{no_bits};
@@ -24,75 +24,75 @@ pub enum Request<'a> {
     Sweep,
 }
 
-pub fn one<'a>(w: &'a [u8]) -> Result<Request<'a>, Errno>
+pub fn one(w: &[u8]) -> Result<Request<'static>, Errno>
     ensures { asked result ≡ by_words (w.now ∷ []) }
 {
-    if w == b"sweep".as_slice() {
-        return Ok(Request::Sweep);
+    match w {
+        b"sweep" => Ok(Request::Sweep),
+        _ => Err(Errno::Einval),
     }
-    Err(Errno::Einval)
 }
 
 pub fn two<'a>(w: &[u8], x: &'a [u8]) -> Result<Request<'a>, Errno>
     ensures { asked result ≡ by_words (w.now ∷ x.now ∷ []) }
 {
-    if w == b"create".as_slice() {
-        return Ok(Request::Command(Command::Create(hexbytes::id(x)?)));
+    match w {
+        b"create" => Ok(Request::Command(Command::Create(hexbytes::id(x)?))),
+        b"remove" => Ok(Request::Command(Command::Remove(hexbytes::id(x)?))),
+        b"open" => Ok(Request::Command(Command::Open(hexbytes::id(x)?))),
+        b"close" => Ok(Request::Command(Command::Close(hexbytes::id(x)?))),
+        b"apmask" => {
+            mask(x)?;
+            Ok(Request::Command(Command::SetApmask(x)))
+        }
+        b"aqmask" => {
+            mask(x)?;
+            Ok(Request::Command(Command::SetAqmask(x)))
+        }
+        _ => Err(Errno::Einval),
     }
-    if w == b"remove".as_slice() {
-        return Ok(Request::Command(Command::Remove(hexbytes::id(x)?)));
-    }
-    if w == b"open".as_slice() {
-        return Ok(Request::Command(Command::Open(hexbytes::id(x)?)));
-    }
-    if w == b"close".as_slice() {
-        return Ok(Request::Command(Command::Close(hexbytes::id(x)?)));
-    }
-    if w == b"apmask".as_slice() {
-        mask(x)?;
-        return Ok(Request::Command(Command::SetApmask(x)));
-    }
-    if w == b"aqmask".as_slice() {
-        mask(x)?;
-        return Ok(Request::Command(Command::SetAqmask(x)));
-    }
-    Err(Errno::Einval)
 }
 
-pub fn three<'a>(w: &'a [u8], x: &[u8], y: &[u8]) -> Result<Request<'a>, Errno>
+pub fn three(w: &[u8], x: &[u8], y: &[u8]) -> Result<Request<'static>, Errno>
     ensures { asked result ≡ by_words (w.now ∷ x.now ∷ y.now ∷ []) }
 {
-    if w == b"move".as_slice() {
-        let adapter = wordtext::byte(x)?;
-        let domain = wordtext::byte(y)?;
-        return Ok(Request::Move(Apqn::new(adapter, domain)));
+    match w {
+        b"move" => {
+            let adapter = wordtext::byte(x)?;
+            let domain = wordtext::byte(y)?;
+            Ok(Request::Move(Apqn::new(adapter, domain)))
+        }
+        _ => Err(Errno::Einval),
     }
-    Err(Errno::Einval)
 }
 
 pub fn four<'a>(w: &[u8], x: &[u8], y: &[u8], z: &'a [u8]) -> Result<Request<'a>, Errno>
     ensures { asked result ≡ by_words (w.now ∷ x.now ∷ y.now ∷ z.now ∷ []) }
 {
-    if w == b"assign".as_slice() {
-        let (kind, id) = numbered(x, y, z)?;
-        return Ok(Request::Command(Command::Assign(kind, id, z)));
+    match w {
+        b"assign" => {
+            let (kind, id) = numbered(x, y, z)?;
+            Ok(Request::Command(Command::Assign(kind, id, z)))
+        }
+        b"unassign" => {
+            let (kind, id) = numbered(x, y, z)?;
+            Ok(Request::Command(Command::Unassign(kind, id, z)))
+        }
+        _ => Err(Errno::Einval),
     }
-    if w == b"unassign".as_slice() {
-        let (kind, id) = numbered(x, y, z)?;
-        return Ok(Request::Command(Command::Unassign(kind, id, z)));
-    }
-    Err(Errno::Einval)
 }
 
 // Five words or more: the first, and all that follows.
 pub fn many<'a>(w: &[u8], rest: &'a [u8]) -> Result<Request<'a>, Errno>
     ensures { asked result ≡ by_many w.now rest.now }
 {
-    if w == b"config".as_slice() {
-        configtext::read(rest)?;
-        return Ok(Request::Config(rest));
+    match w {
+        b"config" => {
+            configtext::read(rest)?;
+            Ok(Request::Config(rest))
+        }
+        _ => Err(Errno::Einval),
     }
-    Err(Errno::Einval)
 }
 
 // The kind and the id before a number, where all three are good.

@@ -125,19 +125,9 @@ cut_some c (x ∷ xs) = go (eqb x c) (cut c xs)
     go false [] = omega arith
     go false (p ∷ ps) = omega arith
 
--- the first pieces of all, one by one
-module _ (c : ℕ) (s : List ℕ) {a : ℕ} (qa : a ≡ end_from c 0 s) (la : a < length s) where
-  pub cut_one : cut c s ≡ piece_from c 0 s ∷ cut c (drop (a + 1) s)
-  cut_one = cut_next c 0 s qa (omega arith) la
-
-  module _ {b : ℕ} (qb : b ≡ end_from c (a + 1) s) (lb : b < length s) where
-    pub cut_two : cut c s ≡ piece_from c 0 s ∷ piece_from c (a + 1) s ∷ cut c (drop (b + 1) s)
-    cut_two = cut_one ∙ ap (λ (ps : List (List ℕ)). piece_from c 0 s ∷ ps) (cut_next c (a + 1) s qb (omega arith) lb)
-
-    pub cut_three : {d : ℕ} → d ≡ end_from c (b + 1) s → d < length s
-        → cut c s ≡ piece_from c 0 s ∷ piece_from c (a + 1) s ∷ piece_from c (b + 1) s ∷ cut c (drop (d + 1) s)
-    cut_three qd ld =
-        cut_two ∙ ap (λ (ps : List (List ℕ)). piece_from c 0 s ∷ piece_from c (a + 1) s ∷ ps) (cut_next c (b + 1) s qd (omega arith) ld)
+-- the first piece of all
+pub cut_one : (c : ℕ) (s : List ℕ) {a : ℕ} → a ≡ end_from c 0 s → a < length s → cut c s ≡ piece_from c 0 s ∷ cut c (drop (a + 1) s)
+cut_one c s qa la = cut_next c 0 s qa (omega arith) la
 
 -- a piece has no separator in it
 first_free : (c : ℕ) (s : List ℕ) → holds c (take (first_of c s) s) ≡ false

@@ -10,19 +10,16 @@ ghost use Rattle.wordtext.specs.Words.{kind_text, byte_text};
 use errno::Errno;
 use rules::Kind;
 
+#[tactic(auto, using(crate::proofs::Laws::same_tells, crate::proofs::Laws::same_spelled), unfolding(errno::specs::Ascii::ascii, errno::specs::Outcome::outcome, crate::specs::Words::kind_text))]
 pub fn kind(y: &[u8]) -> Result<Kind, Errno>
     ensures { outcome result ≡ kind_text y.now }
 {
-    if y == b"adapter".as_slice() {
-        return Ok(Kind::Adapter);
+    match y {
+        b"adapter" => Ok(Kind::Adapter),
+        b"domain" => Ok(Kind::Domain),
+        b"control" => Ok(Kind::Control),
+        _ => Err(Errno::Einval),
     }
-    if y == b"domain".as_slice() {
-        return Ok(Kind::Domain);
-    }
-    if y == b"control".as_slice() {
-        return Ok(Kind::Control);
-    }
-    Err(Errno::Einval)
 }
 
 // A number of at most 255.

@@ -1,5 +1,5 @@
 -- `byte` meets its contract: the number of the text, where it is a byte.
-use mathlib.Core.Path.{sym, ap, ◌∙◌}
+use mathlib.Core.Path.{ap, ◌∙◌}
 use Rattle.errno.specs.Outcome.{outcome}
 use Rattle.errno.proofs.Outcomes.{passed}
 use Rattle.number.specs.Text.{at_most}
