@@ -39,7 +39,7 @@ pub fn max_domain(words: &Words) -> Apqi
     Apqi(limit(words[MAX_DOMAIN]))
 }
 
-// A limit is at most 255.
+// A limit that is read: a word above 255 counts as 255.
 fn limit(w: u64) -> u8
     ensures { result ≡ min w 255 }
 {
