@@ -1,7 +1,7 @@
 -- `nothing_configured` meets its contract.
 use Rattle.std.proofs.Common.{◌≡◌, ℕ, ap, List, replicate}
 use Rattle.layout.specs.Layout.{zeros}
-use Rattle.setup.proofs.Laws.{empty_words}
+use Rattle.layout.proofs.Laws.{empty_words}
 use Rattle.setup.proofs.nothing_configured.Goals as goal
 
 pub returns : goal.returns

@@ -4,9 +4,8 @@ use mathlib.Core.Path.{◌≡◌, ap, ap₂, ◌∙◌}
 use mathlib.Core.List.{List}
 use Rattle.rules.specs.State.{slots}
 use Rattle.layout.specs.Layout.{apmask_at, aqmask_at, put_four, put_config, clear_slots}
-use Rattle.layout.proofs.Laws.{all_ones}
+use Rattle.layout.proofs.Laws.{all_ones, full_words}
 use Rattle.layout.proofs.Fresh.{fresh_over_any}
-use Rattle.setup.proofs.Laws.{full_words}
 use Rattle.setup.proofs.put_fresh.Goals as goal
 
 pub returns : goal.returns
