@@ -2,4 +2,4 @@
 use Rattle.c_queues.proofs.zk_raw_move.Goals as goal
 
 pub returns : goal.returns
-returns c = rw (c.queue.ensures.adapter, c.queue.ensures.domain) at c.make_move.ensures
+returns c = rw (c.new.ensures.adapter, c.new.ensures.domain) at c.make_move.ensures

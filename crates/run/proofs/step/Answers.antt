@@ -14,4 +14,4 @@ returns-then-op-eq10 c =
 pub returns : goal.returns
 returns c =
     let b = c.args.bytes.now in
-    as_asked (is_move b c.if-op-le8.false c.if-op-eq10.false) c.make_move.ensures
+    as_asked (is_move b c.if-op-le8.false c.if-op-eq10.false) (rw (c.new.ensures.adapter, c.new.ensures.domain) at c.make_move.ensures)
