@@ -25,9 +25,9 @@ fn each(rt: &impl Print, words: &mut Words, drivers: &mut Drivers, rows: &[u8]) 
 }
 
 fn row(rt: &impl Print, words: &mut Words, drivers: &mut Drivers, row: &[u8]) -> io::Result<()> {
-    if 3 <= row.len() {
-        print::escaped(rt, &row[3..])?;
-        step(rt, words, drivers, row[0], row[1], &row[3..])?;
+    if let [group, letter, _, s @ ..] = row {
+        print::escaped(rt, s)?;
+        step(rt, words, drivers, *group, *letter, s)?;
     }
     Ok(())
 }
@@ -46,7 +46,7 @@ fn step(
         b'h' => answer(rt, host(words, drivers, letter, s)),
         b'q' => queues(rt, words, drivers, letter, s),
         b'm' => shows(rt, words, drivers, letter, s),
-        _ => end(rt, b"\n"),
+        _ => end_line(rt),
     }
 }
 
@@ -96,15 +96,11 @@ fn host(words: &mut Words, drivers: &mut Drivers, letter: u8, s: &[u8]) -> Answe
 
 // The hardware type of every adapter, and the masks as texts that start from the empty one.
 fn configuration(s: &[u8]) -> Configuration {
-    let adapters = bits(s, 2);
-    let domains = bits(s, 3);
-    let controls = bits(s, 4);
-    let hardware = byte(s, 1);
     Configuration {
-        adapters: adapters,
-        domains: domains,
-        controls: controls,
-        types: [hardware; 256],
+        adapters: bits(s, 2),
+        domains: bits(s, 3),
+        controls: bits(s, 4),
+        types: [byte(s, 1); 256],
     }
 }
 
@@ -153,8 +149,7 @@ fn named(rt: &impl Print, k: usize) -> io::Result<()> {
         rt,
         parts::part(b"idle released host passthrough none", b' ', k),
     )?;
-    print::text(rt, b"\n")?;
-    Ok(())
+    end_line(rt)
 }
 
 fn sweep(rt: &impl Print, r: sweep::Swept) -> io::Result<()> {
@@ -244,21 +239,16 @@ fn list(
             }
             Err(e) => answer(rt, Err(e))?,
         }
-        whole(rt, buf)?;
+        print::text(rt, &buf)?;
+        end_line(rt)?;
     }
-    Ok(())
-}
-
-fn whole(rt: &impl Print, buf: [u8; 32]) -> io::Result<()> {
-    print::text(rt, &buf)?;
-    print::text(rt, b"\n")?;
     Ok(())
 }
 
 // ---- ends of lines
 
-fn end(rt: &impl Print, s: &[u8]) -> io::Result<()> {
-    print::text(rt, s)?;
+fn end_line(rt: &impl Print) -> io::Result<()> {
+    print::text(rt, b"\n")?;
     Ok(())
 }
 
@@ -268,11 +258,9 @@ fn number(rt: &impl Print, n: u64) -> io::Result<()> {
 }
 
 fn yes(rt: &impl Print, b: bool) -> io::Result<()> {
-    if b {
-        end(rt, b": yes\n")
-    } else {
-        end(rt, b": no\n")
-    }
+    let word: &[u8] = if b { b": yes\n" } else { b": no\n" };
+    print::text(rt, word)?;
+    Ok(())
 }
 
 // ---- words
@@ -292,8 +280,7 @@ fn value(s: &[u8], k: usize) -> u64 {
 
 // The first letter of word 2, which tells the kind or the matrix.
 fn letter(s: &[u8]) -> u8 {
-    let w = word(s, 2);
-    if 0 < w.len() { w[0] } else { 0 }
+    word(s, 2).first().copied().unwrap_or(0)
 }
 
 // A number in decimal. One that is too large counts as the largest.

@@ -68,6 +68,6 @@ fn line(domain: u8) -> [u8; LINE]
     ensures { result ≡ domain_line domain }
 {
     let high = digits::hex_digit(domain / 16);
-    let low = digits::hex_digit(domain % 16);
+    let low = digits::hex_digit(domain);
     [b'0', b'0', high, low, b'\n']
 }

@@ -9,6 +9,12 @@ ghost use Rattle.encoding.specs.Meant.{meant};
 
 use rules::{Id, Kind};
 
+// The bytes of a step's header.
+pub const HEADER: usize = 20;
+
+// Where a header has the length of the payload: two bytes, big-endian.
+const LENGTH: usize = 18;
+
 // A command, with its text lent; a configuration is lent as its bytes.
 #[derive(Clone, Copy)]
 pub enum Command<'a> {
@@ -45,9 +51,9 @@ pub fn size_at(bytes: &[u8], at: usize) -> Option<usize>
     ensures { result ≡ cond (whole (drop at bytes.now)) (Some (size_of (drop at bytes.now))) None }
 {
     let left = bytes.get(at..)?;
-    if left.len() < 20 {
+    if left.len() < HEADER {
         return None;
     }
-    let size = 20 + usize::from(left[18]) * 256 + usize::from(left[19]);
+    let size = HEADER + usize::from(left[LENGTH]) * 256 + usize::from(left[LENGTH + 1]);
     if left.len() < size { None } else { Some(size) }
 }

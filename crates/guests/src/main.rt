@@ -56,16 +56,9 @@ fn each(rt: &impl Print, words: &mut Words, drivers: &mut Drivers, rows: &[u8]) 
 }
 
 fn row(rt: &impl Print, words: &mut Words, drivers: &mut Drivers, row: &[u8]) -> io::Result<()> {
-    if 3 <= row.len() {
-        print::text(rt, &row[3..])?;
-        step(
-            rt,
-            words,
-            drivers,
-            row[0],
-            row[1],
-            parts::part(row, b' ', 2),
-        )?;
+    if let [who, what, _, shown @ ..] = row {
+        print::text(rt, shown)?;
+        step(rt, words, drivers, *who, *what, parts::part(row, b' ', 2))?;
     }
     Ok(())
 }
@@ -106,7 +99,7 @@ fn partition() -> Configuration {
     let domains = Mask::empty().with(4).with(71).with(171).with(255);
     Configuration {
         adapters: Mask::empty().with(5).with(6),
-        domains: domains,
+        domains,
         controls: domains,
         types: [10u8; 256],
     }

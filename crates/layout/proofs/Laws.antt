@@ -13,10 +13,14 @@ use lib.ListN.{length, get_or, set, replicate, length-set, get_or-eq_default}
 use lib.Seq.{get_or-set_same, get_or-set_other, get_or-append-add, set-get_or, ext_get_or}
 use lib.Dec.{eqb, ltb}
 use borrow.Author.Tests.{ltb-true, ltb-false, eqb-true, eqb-false, lt-ltb, le-ltb}
+use mir.Val.{Val}
+use denote.Laws.{Is}
 use Rattle.errno.specs.declared.Errno.{Errno}
 use Rattle.errno.specs.Outcome.{Outcome, granted, refused}
-use Rattle.mask.specs.Bits.{Sized, Bits, bits, bit_at, no_bits, all_bits, numbers}
-use Rattle.mask.proofs.Laws.{zero_bits, one_bits, past_end, numbers_words, numbers_bits, numbers_of_bits, below_four}
+use Rattle.mask.specs.declared.Mask.{Mask}
+use Rattle.mask.specs.contracts.Mask.{the_row}
+use Rattle.mask.specs.Bits.{Sized, Bits, bits, bit_at, no_bits, all_bits, number, numbers}
+use Rattle.mask.proofs.Laws.{zero_bits, one_bits, past_end, mask_words_lem, numbers_words, numbers_bits, numbers_of_bits, below_four}
 use Rattle.rules.specs.declared.Kind.{Kind}
 use Rattle.rules.specs.declared.Kind.TheVariants.{Adapter, Domain, Control}
 use Rattle.rules.specs.declared.Driver.{Driver}
@@ -285,6 +289,18 @@ all_ones = ones ∷ ones ∷ ones ∷ ones ∷ []
 pub words_of_lem : {m : List ℕ} → Sized 64 4 m → words_of (bit_at 64 m) ≡ m
 unfolding words_of
 words_of_lem h = numbers_of_bits (omega arith) h
+
+-- a mask with no bit, or with all, has these words
+words_are : (m : Mask) {vs : List Val} {b : Bits} → Is the_row m vs → bits m ≡ b → m.words ≡ words_of b
+words_are m h e = sym (words_of_lem (mask_words_lem m h)) ∙ ap words_of e
+
+pub empty_words : (m : Mask) {vs : List Val} → Is the_row m vs → bits m ≡ no_bits → m.words ≡ zeros
+unfolding words_of numbers number no_bits
+empty_words m h e = words_are m h e
+
+pub full_words : (m : Mask) {vs : List Val} → Is the_row m vs → bits m ≡ all_bits → m.words ≡ all_ones
+unfolding words_of numbers number all_bits
+full_words m h e = words_are m h e
 
 pub words_bits : (m : Bits) → ((i : ℕ) → 256 ≤ i → m i ≡ false) → bit_at 64 (words_of m) ≡ m
 unfolding words_of

@@ -5,10 +5,10 @@
 // Rests on errno, mask and rules.
 #![tactic(auto)]
 
-ghost use Rattle.std.specs.Prelude.{◌≡◌};
+ghost use Rattle.std.specs.Prelude.{◌≡◌, ◌<◌};
 ghost use Rattle.mask.specs.Bits.{Small, Sized};
-ghost use Rattle.rules.specs.State.{queues};
-ghost use Rattle.layout.specs.Layout.{word_count, kind_at};
+ghost use Rattle.rules.specs.State.{queues, slots};
+ghost use Rattle.layout.specs.Layout.{word_count, device_at, kind_at};
 
 use rules::{Kind, QUEUES};
 
@@ -32,10 +32,12 @@ pub const CONTROLS: usize = 18;
 
 pub const TYPES: usize = 22;
 
-pub const FIRST_SLOT: usize = TYPES + 256;
+const FIRST_SLOT: usize = TYPES + 256;
 
 // The words of a slot: whether a device is present, whether it is open, the two of its id, then three masks.
-pub const SLOT_WORDS: usize = 16;
+const SLOT_WORDS: usize = 16;
+
+pub const PRESENT: usize = 0;
 
 pub const OPEN: usize = 1;
 
@@ -75,6 +77,14 @@ fn small_bytes(bytes: &[u8])
     ensures { Small 8 bytes.now }
 {
     let _ = bytes;
+}
+
+// Where a slot lies.
+pub fn slot_at(slot: usize) -> usize
+    requires { slot < slots }
+    ensures { result ≡ device_at slot }
+{
+    FIRST_SLOT + slot * SLOT_WORDS
 }
 
 // Where the mask of a kind lies in a slot.

@@ -3,8 +3,8 @@
 // Rests on digits, mask, rules and product.
 #![tactic(auto)]
 
-ghost use Rattle.std.specs.Prelude.{◌+◌, ◌≤◌, ◌<◌, ◌≡◌, length};
-ghost use Rattle.rules.specs.State.{queues};
+ghost use Rattle.std.specs.Prelude.{◌+◌, ◌≤◌, ◌≡◌, length};
+ghost use Rattle.rules.specs.State.{apqn};
 ghost use Rattle.product.specs.Meet.{queues_of};
 ghost use Rattle.lines.specs.Lines.{line_size, line_of, with_line};
 ghost use Rattle.lines.specs.Written.{Written};
@@ -29,14 +29,15 @@ pub fn write(product: Product, place: usize, buf: &mut [u8]) -> Filled
 {
     let mut at = 0;
     let mut next = place;
-    for queue in place..QUEUES {
-        if has(product, queue) {
+    for n in place..QUEUES {
+        let queue = Apqn::new((n / 256) as u8, (n % 256) as u8);
+        if product.has(queue) {
             if buf.len() - at < LINE {
                 return Filled { written: at, next };
             }
             put_line(buf, at, queue);
             at += LINE;
-            next = queue + 1;
+            next = n + 1;
         }
     }
     Filled {
@@ -45,35 +46,27 @@ pub fn write(product: Product, place: usize, buf: &mut [u8]) -> Filled
     }
 }
 
-fn has(product: Product, queue: usize) -> bool
-    requires { queue < queues }
-    ensures { result ≡ queues_of product queue }
-{
-    product.has(Apqn::new((queue / 256) as u8, (queue % 256) as u8))
-}
-
 // Writes the line of a queue at an index of the buffer.
-fn put_line(buf: &mut [u8], at: usize, queue: usize)
-    requires { (at + line_size ≤ length buf.old) × (queue < queues) }
-    ensures { buf.new ≡ with_line buf.old at queue }
+fn put_line(buf: &mut [u8], at: usize, queue: Apqn)
+    requires { at + line_size ≤ length buf.old }
+    ensures { buf.new ≡ with_line buf.old at (apqn queue.adapter queue.domain) }
 {
     buf[at..at + LINE].copy_from_slice(&line(queue));
 }
 
-fn line(queue: usize) -> [u8; LINE]
-    requires { queue < queues }
-    ensures { result ≡ line_of queue }
+fn line(queue: Apqn) -> [u8; LINE]
+    ensures { result ≡ line_of (apqn queue.adapter queue.domain) }
 {
-    let a = (queue / 256) as u8;
-    let d = (queue % 256) as u8;
+    let a = queue.adapter.0;
+    let d = queue.domain.0;
     [
         digits::hex_digit(a / 16),
-        digits::hex_digit(a % 16),
+        digits::hex_digit(a),
         b'.',
         b'0',
         b'0',
         digits::hex_digit(d / 16),
-        digits::hex_digit(d % 16),
+        digits::hex_digit(d),
         b'\n',
     ]
 }

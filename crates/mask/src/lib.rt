@@ -7,7 +7,7 @@ ghost use Rattle.std.specs.Prelude.{ℕ, ◌-◌, ◌%◌, ◌^◌, ◌≡◌};
 ghost use Rattle.mask.specs.Bits.{bits, no_bits, all_bits, included, excluded};
 
 // An adapter number. It and a domain number are kinds of their own: where a function takes the one, the other is no number for it.
-// `has` takes either, as a mask may be of adapters or of domains.
+// A mask's methods take either, as a mask may be of adapters or of domains.
 #[derive(Clone, Copy, PartialEq, Eq)]
 pub struct Apid(pub u8);
 
@@ -95,16 +95,18 @@ impl Mask {
         (self.words[usize::from(i / 64)] >> (63 - i % 64)) % 2 == 1
     }
 
-    pub fn with(mut self, i: u8) -> Mask
-        ensures { bits result ≡ included i (bits self) }
+    pub fn with<N: BitNumber>(mut self, number: N) -> Mask
+        ensures { bits result ≡ included (N.bit number) (bits self) }
     {
+        let i = number.bit();
         self.words[usize::from(i / 64)] |= bit_of(i);
         self
     }
 
-    pub fn without(mut self, i: u8) -> Mask
-        ensures { bits result ≡ excluded i (bits self) }
+    pub fn without<N: BitNumber>(mut self, number: N) -> Mask
+        ensures { bits result ≡ excluded (N.bit number) (bits self) }
     {
+        let i = number.bit();
         self.words[usize::from(i / 64)] &= !bit_of(i);
         self
     }

@@ -53,7 +53,7 @@ fn kept_adapter(drivers: &Drivers, adapter: Apid, mask: Mask, domains: Mask) -> 
     ensures { bits result ≡ (λ j. bits mask j && not (held_at adapter.0 drivers.now (bits domains) j)) }
 {
     if mask.has(adapter) && !row_passed(drivers, adapter, domains) {
-        mask.without(adapter.0)
+        mask.without(adapter)
     } else {
         mask
     }

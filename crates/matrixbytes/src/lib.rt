@@ -14,8 +14,11 @@ use layout::{Drivers, Words};
 use mask::Mask;
 use rules::{Id, Masks, Matrix};
 
+// The bytes of a mask.
+const MASK_BYTES: usize = 32;
+
 // The bytes of three masks.
-pub const MASKS_BYTES: usize = 96;
+pub const MASKS_BYTES: usize = 3 * MASK_BYTES;
 
 // The adapters, domains and control domains of a matrix.
 pub fn masks(
@@ -41,8 +44,8 @@ pub fn put_masks(masks: Masks, out: &mut [u8; MASKS_BYTES])
     ensures { out.new ≡ masks_bytes masks }
 {
     put_mask(masks.adapters, out, 0);
-    put_mask(masks.domains, out, 32);
-    put_mask(masks.controls, out, 64);
+    put_mask(masks.domains, out, MASK_BYTES);
+    put_mask(masks.controls, out, 2 * MASK_BYTES);
 }
 
 // The bytes of a mask, from an index on.

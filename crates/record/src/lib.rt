@@ -11,8 +11,8 @@ ghost use Rattle.rules.specs.State.{slots};
 ghost use Rattle.layout.specs.Lent.{limits, host, config, devices};
 
 use layout::{
-    ADAPTERS, APMASK, AQMASK, CONTROLS, DOMAINS, FIRST_SLOT, ID_HI, ID_LO, MAX_ADAPTER, MAX_DOMAIN,
-    OPEN, SLOT_WORDS, SLOTS, TYPES, Words,
+    ADAPTERS, APMASK, AQMASK, CONTROLS, DOMAINS, ID_HI, ID_LO, MAX_ADAPTER, MAX_DOMAIN, OPEN,
+    PRESENT, SLOTS, TYPES, Words,
 };
 use mask::{Apid, Apqi, Mask};
 use rules::{Id, Kind};
@@ -39,7 +39,7 @@ pub fn max_domain(words: &Words) -> Apqi
     Apqi(limit(words[MAX_DOMAIN]))
 }
 
-// A limit is at most 255.
+// A limit that is read: a word above 255 counts as 255.
 fn limit(w: u64) -> u8
     ensures { result ≡ min w 255 }
 {
@@ -88,7 +88,7 @@ fn slot_word(words: &Words, slot: usize, k: usize) -> u64
     ensures { result ≡ cond (ltb slot slots) (get_or words.now (device_at slot + k) 0) 0 }
 {
     if slot < SLOTS {
-        words[FIRST_SLOT + slot * SLOT_WORDS + k]
+        words[layout::slot_at(slot) + k]
     } else {
         0
     }
@@ -98,7 +98,7 @@ fn slot_word(words: &Words, slot: usize, k: usize) -> u64
 pub fn present(words: &Words, slot: usize) -> bool
     ensures { result ≡ (devices words.entry slot).present }
 {
-    slot_word(words, slot, 0) != 0
+    slot_word(words, slot, PRESENT) != 0
 }
 
 pub fn is_open(words: &Words, slot: usize) -> bool
@@ -121,10 +121,7 @@ pub fn numbers(words: &Words, slot: usize, kind: Kind) -> Mask
     ensures { bits result ≡ numbers_of kind (devices words.entry slot) }
 {
     if slot < SLOTS {
-        mask_at(
-            words,
-            FIRST_SLOT + slot * SLOT_WORDS + layout::kind_at(kind),
-        )
+        mask_at(words, layout::slot_at(slot) + layout::kind_at(kind))
     } else {
         Mask::empty()
     }

@@ -83,7 +83,7 @@ skipped m (suc n) p l h =
 -- a search over the slots finds the first that the test holds of
 pub first_of_slots : (p : Bits) {r : Option ℕ}
     → MatchOption r ((k : ℕ) → 0 ≤ k → k < slots → p k ≡ false)
-      (λ i. (0 ≤ i) × (i < slots) × (p i ≡ true) × ((k : ℕ) → 0 ≤ k → k < i → p k ≡ false))
+    (λ i. (0 ≤ i) × (i < slots) × (p i ≡ true) × ((k : ℕ) → 0 ≤ k → k < i → p k ≡ false))
     → r ≡ found (first_from slots 0 p)
 first_of_slots p {r = None} none =
     found_none (skipped slots slots p (omega arith) none ∙ turn_end slots slots p (omega arith)) (omega arith)
@@ -97,8 +97,8 @@ slot_at k l = sym (get_or-range_with_len 0 slots k 0 l ∙ zero-add k)
 -- whether the test holds of some slot
 pub some_of_slots : (p : Bits) {r : Bool}
     → MatchBool r
-      ((k : ℕ) × (k < length (range_with_len 0 slots)) × HoldsAt (λ x. p x ≡ true) (range_with_len 0 slots) k)
-      (AllWithin (λ x. p x ≡ false) (range_with_len 0 slots) 0 (length (range_with_len 0 slots)))
+    ((k : ℕ) × (k < length (range_with_len 0 slots)) × HoldsAt (λ x. p x ≡ true) (range_with_len 0 slots) k)
+    (AllWithin (λ x. p x ≡ false) (range_with_len 0 slots) 0 (length (range_with_len 0 slots)))
     → r ≡ some_below slots p
 some_of_slots p {r = true} (k, l, h) =
     let l' : k < slots = omega (arith, length-range_with_len 0 slots) in

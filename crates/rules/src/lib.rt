@@ -13,6 +13,9 @@ use mask::Mask;
 // The number of queues: an adapter and a domain each.
 pub const QUEUES: usize = 65536;
 
+// The lowest hardware type whose queues are passed through to guests.
+pub const LOWEST_PASSED_TYPE: u64 = 10;
+
 // Who drives a queue: nobody, the host's own driver, or the driver that passes it through to guests.
 #[derive(Clone, Copy, PartialEq, Eq)]
 pub enum Driver {

@@ -6,6 +6,7 @@
 ghost use Rattle.std.specs.Prelude.{◌≤◌, length, get_or};
 ghost use Rattle.run.specs.Running.{StepsOnce, CarriesOut, Runs};
 
+use encoding::HEADER;
 use layout::{Drivers, Words};
 use mask::{Apid, Apqi, Apqn};
 
@@ -70,6 +71,6 @@ fn obey(words: &mut Words, drivers: &mut Drivers, bytes: &[u8]) -> u8
 {
     let kind = fields::kind_of(bytes[1]);
     let id = fields::id_of(&bytes[2..]);
-    let command = encoding::command_of(bytes[0], kind, id, &bytes[20..]);
+    let command = encoding::command_of(bytes[0], kind, id, &bytes[HEADER..]);
     rules::answer_number(request::command(words, drivers, command))
 }

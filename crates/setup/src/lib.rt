@@ -25,7 +25,7 @@ pub fn fresh(words: &mut Words, drivers: &mut Drivers, adapter: u64, domain: u64
     Ok(())
 }
 
-// A limit is at most 255.
+// A limit that is asked for: one above 255 is refused.
 fn limit(n: u64) -> Result<u8, Errno>
     ensures { MatchResult result (λ l. (l ≡ n) × (n ≤ 255)) (λ e. (e ≡ Einval) × (255 < n)) }
 {
@@ -37,9 +37,7 @@ fn put_fresh(words: &mut Words, adapter: Apid, domain: Apqi)
     ensures { words.new ≡ fresh_words adapter.0 domain.0 }
 {
     layout::hold_words(words);
-    let ones = Mask {
-        words: [u64::MAX; 4],
-    };
+    let ones = Mask::full();
     store::put_limits(words, adapter, domain);
     store::put_apmask(words, ones);
     store::put_aqmask(words, ones);
@@ -51,7 +49,7 @@ fn put_fresh(words: &mut Words, adapter: Apid, domain: Apqi)
 fn nothing_configured() -> Configuration
     ensures { result ≡ no_configuration }
 {
-    let none = Mask { words: [0u64; 4] };
+    let none = Mask::empty();
     Configuration {
         adapters: none,
         domains: none,

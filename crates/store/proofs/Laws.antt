@@ -1,15 +1,12 @@
--- Four words that are put at once, the words of no bit, a flag as a number.
+-- Four words that are put at once, the parts of a slot that is given or emptied, a flag as a number.
 -- Assumes nothing.
-use Rattle.std.proofs.Common.{◌≡◌, ℕ, zero, suc, ◌+◌, ◌<◌, refl, sym, ap, ◌∙◌, arith, Bool, true, false, cond, List, [], ◌∷◌, length, get_or, set}
+use Rattle.std.proofs.Common.{◌≡◌, ℕ, zero, suc, ◌+◌, ◌<◌, refl, sym, ap, ◌∙◌, arith, add-zero, Bool, true, false, cond, List, [], ◌∷◌, length, get_or, set}
 use borrow.Rule.Slice.PartMut.{put_mid}
-use mir.Val.{Val, bool_byte}
-use denote.Laws.{Is}
-use Rattle.mask.specs.declared.Mask.{Mask}
-use Rattle.mask.specs.contracts.Mask.{the_row}
-use Rattle.mask.specs.Bits.{Bits, bits, no_bits, number, numbers}
-use Rattle.mask.proofs.Laws.{mask_words_lem, numbers_of_bits}
-use Rattle.layout.specs.Layout.{put_four, zeros}
-use Rattle.layout.proofs.Laws.{four_of}
+use mir.Val.{bool_byte}
+use Rattle.rules.specs.declared.Kind.{Kind}
+use Rattle.rules.specs.State.{slots}
+use Rattle.layout.specs.Layout.{device_at, kind_at, put_four, put_numbers, zeros}
+use Rattle.layout.proofs.Laws.{cond_below, four_of}
 
 four_written : (ws : List ℕ) (k a b c d : ℕ) → suc (suc (suc k)) < length ws
     → put_mid k 4 ws (a ∷ b ∷ c ∷ d ∷ []) ≡ set (set (set (set ws k a) (suc k) b) (suc (suc k)) c) (suc (suc (suc k))) d
@@ -30,10 +27,16 @@ four_put ws k n ys m h e p l =
     rw (e, p, i₁, i₂, i₃)
     (ap (put_mid k 4 ws) (sym (four_of m l)) ∙ four_written ws k (get_or m 0 0) (get_or m 1 0) (get_or m 2 0) (get_or m 3 0) (omega arith))
 
--- a mask with no bit has no word
-pub none_words : (m : Mask) {vs : List Val} → Is the_row m vs → bits m ≡ no_bits → m.words ≡ zeros
-unfolding numbers number no_bits
-none_words m h e = sym (numbers_of_bits (omega arith) (mask_words_lem m h)) ∙ ap (λ (f : Bits). numbers 64 4 f 0) e
+-- the first four words of a slot are put one by one
+pub head_put : (ws : List ℕ) (k p x y a b : ℕ) → k ≡ p → x ≡ y
+    → set (set (set (set ws (k + 0) x) (k + 1) 0) (k + 2) a) (k + 3) b ≡ put_four ws p (y ∷ 0 ∷ a ∷ b ∷ [])
+unfolding put_four
+head_put ws k p x y a b h e = rw (h, e, add-zero p) refl
+
+-- nothing is assigned of a kind to the device at a slot
+pub none_put : (ws : List ℕ) (p : ℕ) (k : Kind) (m : List ℕ) → p < slots → m ≡ zeros → put_numbers ws p k m ≡ put_four ws (device_at p + kind_at k) zeros
+unfolding put_numbers
+none_put ws p k m h e = cond_below p slots _ ws h ∙ ap (put_four ws (device_at p + kind_at k)) e
 
 pub flag_byte : (b : Bool) → bool_byte b ≡ cond b 1 0
 flag_byte true = refl

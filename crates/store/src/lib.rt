@@ -9,8 +9,8 @@ ghost use Rattle.layout.specs.Layout.{word_count, apmask_at, aqmask_at};
 ghost use Rattle.layout.specs.Layout.{put_four, put_limits, put_numbers, put_open, put_device, put_types, put_config};
 
 use layout::{
-    ADAPTERS, APMASK, AQMASK, CONTROLS, DOMAINS, FIRST_SLOT, MAX_ADAPTER, MAX_DOMAIN, OPEN,
-    SLOT_WORDS, SLOTS, TYPES, Words,
+    ADAPTERS, APMASK, AQMASK, CONTROLS, DOMAINS, ID_HI, ID_LO, MAX_ADAPTER, MAX_DOMAIN, OPEN,
+    PRESENT, SLOTS, TYPES, Words,
 };
 use mask::{Apid, Apqi, Mask};
 use rules::{Configuration, Id, Kind};
@@ -45,11 +45,7 @@ pub fn put_numbers(words: &mut Words, slot: usize, kind: Kind, mask: Mask)
     ensures { words.new ≡ put_numbers words.old slot kind mask.words }
 {
     if slot < SLOTS {
-        put_mask(
-            words,
-            FIRST_SLOT + slot * SLOT_WORDS + layout::kind_at(kind),
-            mask,
-        );
+        put_mask(words, layout::slot_at(slot) + layout::kind_at(kind), mask);
     }
 }
 
@@ -57,7 +53,7 @@ pub fn put_open(words: &mut Words, slot: usize, opened: bool)
     ensures { words.new ≡ put_open words.old slot opened }
 {
     if slot < SLOTS {
-        words[FIRST_SLOT + slot * SLOT_WORDS + OPEN] = u64::from(opened);
+        words[layout::slot_at(slot) + OPEN] = u64::from(opened);
     }
 }
 
@@ -66,29 +62,25 @@ pub fn put_device(words: &mut Words, slot: usize, present: bool, id: Id)
     ensures { words.new ≡ put_device words.old slot present id }
 {
     if slot < SLOTS {
-        let k = FIRST_SLOT + slot * SLOT_WORDS;
-        let first = Mask {
-            words: [u64::from(present), 0, id.hi, id.lo],
-        };
+        let k = layout::slot_at(slot);
+        words[k + PRESENT] = u64::from(present);
+        words[k + OPEN] = 0;
+        words[k + ID_HI] = id.hi;
+        words[k + ID_LO] = id.lo;
         let none = Mask::empty();
-        put_mask(words, k, first);
-        put_mask(words, k + 4, none);
-        put_mask(words, k + 8, none);
-        put_mask(words, k + 12, none);
+        put_numbers(words, slot, Kind::Adapter, none);
+        put_numbers(words, slot, Kind::Domain, none);
+        put_numbers(words, slot, Kind::Control, none);
     }
 }
 
 pub fn put_configuration(words: &mut Words, configuration: Configuration)
     ensures { words.new ≡ put_config words.old configuration }
 {
-    let adapters = configuration.adapters;
-    let domains = configuration.domains;
-    let controls = configuration.controls;
-    let types = configuration.types;
-    put_mask(words, ADAPTERS, adapters);
-    put_mask(words, DOMAINS, domains);
-    put_mask(words, CONTROLS, controls);
-    put_types(words, adapters, types);
+    put_mask(words, ADAPTERS, configuration.adapters);
+    put_mask(words, DOMAINS, configuration.domains);
+    put_mask(words, CONTROLS, configuration.controls);
+    put_types(words, configuration.adapters, configuration.types);
 }
 
 fn put_types(words: &mut Words, adapters: Mask, types: [u8; 256])

@@ -10,7 +10,7 @@ ghost use Rattle.layout.specs.Lent.{host, config};
 
 use layout::Words;
 use mask::Apqn;
-use rules::Driver;
+use rules::{Driver, LOWEST_PASSED_TYPE};
 
 // The driver that a queue should have.
 pub fn target(words: &Words, queue: Apqn) -> Driver
@@ -20,7 +20,7 @@ pub fn target(words: &Words, queue: Apqn) -> Driver
         Driver::Unbound
     } else if products::reserved(words).has(queue) {
         Driver::Host
-    } else if record::hardware_type(words, queue.adapter) < 10 {
+    } else if record::hardware_type(words, queue.adapter) < LOWEST_PASSED_TYPE {
         Driver::Unbound
     } else {
         Driver::Passthrough

@@ -9,7 +9,7 @@ ghost use Rattle.targetrow.specs.TargetRows.{row_target, TargetsOf};
 
 use layout::Words;
 use mask::{Apid, Apqi, Mask};
-use rules::Driver;
+use rules::{Driver, LOWEST_PASSED_TYPE};
 
 // The domains of those queues whose target is the host, and of those whose target is passthrough.
 #[derive(Clone, Copy)]
@@ -26,7 +26,7 @@ impl TargetRow {
         let configured = products::configured(words).row(adapter);
         let reserved = products::reserved(words).row(adapter);
         let host = masks::and(configured, reserved);
-        let passthrough = if record::hardware_type(words, adapter) < 10 {
+        let passthrough = if record::hardware_type(words, adapter) < LOWEST_PASSED_TYPE {
             Mask::empty()
         } else {
             masks::minus(configured, reserved)

@@ -145,7 +145,7 @@ fn changed_byte(rt: &impl Print, how: u8, t: &[u8], place: usize, b: u8) -> io::
 
 fn number_line(rt: &impl Print, s: &[u8], place: usize, b: u8) -> io::Result<()> {
     if let Ok(v) = number::parse(s) {
-        at(rt, place, b)?;
+        place_and_byte(rt, place, b)?;
         number_outcome(rt, Ok(v))?;
     }
     Ok(())
@@ -153,13 +153,13 @@ fn number_line(rt: &impl Print, s: &[u8], place: usize, b: u8) -> io::Result<()>
 
 fn mask_line(rt: &impl Print, s: &[u8], place: usize, b: u8) -> io::Result<()> {
     if let Ok(m) = masktext::parse(s, Mask::full()) {
-        at(rt, place, b)?;
+        place_and_byte(rt, place, b)?;
         mask_outcome(rt, Ok(m))?;
     }
     Ok(())
 }
 
-fn at(rt: &impl Print, place: usize, b: u8) -> io::Result<()> {
+fn place_and_byte(rt: &impl Print, place: usize, b: u8) -> io::Result<()> {
     print::decimal(rt, place as u64)?;
     print::text(rt, b" ")?;
     print::decimal(rt, u64::from(b))?;

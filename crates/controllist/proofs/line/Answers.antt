@@ -10,5 +10,4 @@ unfolding domain_line
 returns c =
     let d = c.args.domain in
     let a : d / 16 % 16 ≡ d / 16 = omega arith in
-    let b : d % 16 % 16 ≡ d % 16 = omega arith in
-    rw (c.hex_digit-low.ensures, c.hex_digit-high.ensures, a, b)
+    rw (c.hex_digit-low.ensures, c.hex_digit-high.ensures, a)

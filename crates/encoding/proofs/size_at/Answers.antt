@@ -8,8 +8,8 @@ pub returns-in_err-left : goal.returns-in_err-left
 returns-in_err-left c =
     c.from_residual.ensures ∙ past c.args.bytes.now c.args.at (omega (arith, c.in_err-left.ensures.lookup.0))
 
-pub returns-then-left-lt20 : goal.returns-then-left-lt20
-returns-then-left-lt20 c = none_left _ (omega arith) ∙ ap sized (left_is c.args.bytes.now c.args.at c.in_ok-left.ensures.lookup.0.2)
+pub returns-then-left-lt-HEADER : goal.returns-then-left-lt-HEADER
+returns-then-left-lt-HEADER c = none_left _ (omega arith) ∙ ap sized (left_is c.args.bytes.now c.args.at c.in_ok-left.ensures.lookup.0.2)
 
 pub returns-then-left-size : goal.returns-then-left-size
 returns-then-left-size c = part_left _ (omega arith) (omega arith) ∙ ap sized (left_is c.args.bytes.now c.args.at c.in_ok-left.ensures.lookup.0.2)

@@ -3,5 +3,5 @@ use Rattle.product.specs.Meet.{queues_of}
 use Rattle.lines.proofs.Laws.{Sofar}
 use Rattle.lines.proofs.write.Given as goal
 
-abbrev pub invariant-loop-queue : goal.invariant-loop-queue
-invariant-loop-queue l = Sofar (queues_of l.product) l.place l.initial.buf l.buf l.queue l.at l.next
+abbrev pub invariant-loop-n : goal.invariant-loop-n
+invariant-loop-n l = Sofar (queues_of l.product) l.place l.initial.buf l.buf l.n l.at l.next

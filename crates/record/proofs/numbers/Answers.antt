@@ -1,7 +1,7 @@
 -- `numbers` meets its contract.
-use Prim.Native.Nat.{ℕ, ◌+◌, ◌*◌}
+use Prim.Native.Nat.{ℕ, ◌+◌}
 use native.Mathlib.Omega.{arith}
-use mathlib.Core.Path.{◌≡◌, refl, sym, ap, ◌∙◌}
+use mathlib.Core.Path.{◌≡◌, refl, sym, ap, ap₂, ◌∙◌}
 use Rattle.mask.specs.Bits.{bit_at, no_bits}
 use Rattle.rules.specs.declared.Kind.{Kind}
 use Rattle.rules.specs.declared.Kind.TheVariants.{Adapter, Domain, Control}
@@ -15,7 +15,7 @@ pub returns-then-slot-lt-SLOTS : goal.returns-then-slot-lt-SLOTS
 unfolding mask_at
 returns-then-slot-lt-SLOTS c =
     let a = c.args in
-    ap (bit_at 64) c.mask_at.ensures ∙ ap (λ (n : ℕ). mask_at a.words.now (278 + a.slot * 16 + n)) c.kind_at.ensures
+    ap (bit_at 64) c.mask_at.ensures ∙ ap₂ (λ (p n : ℕ). mask_at a.words.now (p + n)) c.slot_at.ensures c.kind_at.ensures
     ∙ sym (numbers_there a.words.now a.slot a.kind) ∙ ap (numbers_of a.kind) (sym (device_there_lem a.words.now a.slot (omega arith)))
 
 pub returns-else-slot-lt-SLOTS : goal.returns-else-slot-lt-SLOTS
@@ -29,8 +29,8 @@ returns-else-slot-lt-SLOTS c =
     none Domain = refl
     none Control = refl
 
-pub overflow_add-slot-then-slot-lt-SLOTS : goal.overflow_add-slot-then-slot-lt-SLOTS
-overflow_add-slot-then-slot-lt-SLOTS c = omega (arith, kind_small c.args.kind)
+pub overflow_add-slot_at : goal.overflow_add-slot_at
+overflow_add-slot_at c = omega (arith, kind_small c.args.kind)
 
 pub mask_at-requires : goal.mask_at-requires
 mask_at-requires c = omega (arith, kind_small c.args.kind)

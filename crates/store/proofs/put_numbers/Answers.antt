@@ -7,11 +7,11 @@ use Rattle.store.proofs.put_numbers.Goals as goal
 
 pub returns-then-slot-lt-SLOTS : goal.returns-then-slot-lt-SLOTS
 unfolding put_numbers
-returns-then-slot-lt-SLOTS c = simp (lt-ltb c.args.slot 8 (omega arith), ← c.kind_at.ensures) c.put_mask.ensures
+returns-then-slot-lt-SLOTS c = simp (lt-ltb c.args.slot 8 (omega arith), ← c.kind_at.ensures, ← c.slot_at.ensures) c.put_mask.ensures
 
-pub overflow_add-slot-then-slot-lt-SLOTS : goal.overflow_add-slot-then-slot-lt-SLOTS
+pub overflow_add-slot_at : goal.overflow_add-slot_at
 unfolding put_numbers
-overflow_add-slot-then-slot-lt-SLOTS c = omega (arith, kind_small c.args.kind)
+overflow_add-slot_at c = omega (arith, kind_small c.args.kind)
 
 pub put_mask-requires : goal.put_mask-requires
 unfolding put_numbers

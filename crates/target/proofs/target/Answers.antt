@@ -23,16 +23,16 @@ returns-then-has c =
     let kept = has_test (apqn a.queue.adapter a.queue.domain) c.has-else-not-has.ensures c.reserved.ensures.members in
     target_by (host a.words) (config a.words) a.queue.adapter.0 a.queue.domain.0 (omega arith) true true (sym c.if-not-has.false ∙ conf) (sym c.if-has.true ∙ kept)
 
-pub returns-then-hardware_type-lt10 : goal.returns-then-hardware_type-lt10
-returns-then-hardware_type-lt10 c =
+pub returns-then-hardware_type-lt-LOWEST_PASSED_TYPE : goal.returns-then-hardware_type-lt-LOWEST_PASSED_TYPE
+returns-then-hardware_type-lt-LOWEST_PASSED_TYPE c =
     let a = c.args in
     let conf = has_test (apqn a.queue.adapter a.queue.domain) c.has.ensures c.configured.ensures.members in
     let kept = has_test (apqn a.queue.adapter a.queue.domain) c.has-else-not-has.ensures c.reserved.ensures.members in
     ap (λ (b : Bool). cond b Passthrough Unbound) (sym (lt-leb 10 ((config a.words).types a.queue.adapter.0) (omega (arith, c.hardware_type.ensures))))
     ∙ target_by (host a.words) (config a.words) a.queue.adapter.0 a.queue.domain.0 (omega arith) true false (sym c.if-not-has.false ∙ conf) (sym c.if-has.false ∙ kept)
 
-pub returns-else-hardware_type-lt10 : goal.returns-else-hardware_type-lt10
-returns-else-hardware_type-lt10 c =
+pub returns-else-hardware_type-lt-LOWEST_PASSED_TYPE : goal.returns-else-hardware_type-lt-LOWEST_PASSED_TYPE
+returns-else-hardware_type-lt-LOWEST_PASSED_TYPE c =
     let a = c.args in
     let conf = has_test (apqn a.queue.adapter a.queue.domain) c.has.ensures c.configured.ensures.members in
     let kept = has_test (apqn a.queue.adapter a.queue.domain) c.has-else-not-has.ensures c.reserved.ensures.members in

@@ -1,8 +1,10 @@
 -- `Mask::without` meets its contract.
-use Rattle.std.proofs.Common.{arith}
+use Rattle.std.proofs.Common.{ℕ, ap, ◌∙◌, arith}
+use Rattle.mask.specs.Bits.{bits, excluded}
 use Rattle.mask.proofs.Laws.{mask_clear}
 use Rattle.mask.proofs.Mask.without.Goals as goal
 
 pub returns : goal.returns
-returns c =
-    rw c.from.ensures (mask_clear c.args.self c.well_formed.0 c.args.i (omega arith) c.bit_of.result c.bit_of.ensures)
+returns g c =
+    rw c.from.ensures (mask_clear c.args.self c.well_formed.0 c.bit-i.result (omega arith) c.bit_of.result c.bit_of.ensures)
+    ∙ ap (λ (i : ℕ). excluded i (bits c.args.self)) c.bit-i.ensures

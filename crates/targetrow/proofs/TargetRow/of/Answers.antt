@@ -26,14 +26,14 @@ made c t m e f =
     (row_test a.adapter.0 c.row-reserved.ensures c.reserved.ensures.members)
     _ t e c.and-host.ensures f
 
-pub returns-then-hardware_type-lt10 : goal.returns-then-hardware_type-lt10
-returns-then-hardware_type-lt10 c =
+pub returns-then-hardware_type-lt-LOWEST_PASSED_TYPE : goal.returns-then-hardware_type-lt-LOWEST_PASSED_TYPE
+returns-then-hardware_type-lt-LOWEST_PASSED_TYPE c =
     let a = c.args in
-    made (goal.at.returns-then-hardware_type-lt10 c).After-and-host false _
+    made (goal.at.returns-then-hardware_type-lt-LOWEST_PASSED_TYPE c).After-and-host false _
     (sym (lt-leb 10 ((config a.words).types a.adapter.0) (omega (arith, c.hardware_type.ensures)))) c.empty-passthrough.ensures
 
-pub returns-else-hardware_type-lt10 : goal.returns-else-hardware_type-lt10
-returns-else-hardware_type-lt10 c =
+pub returns-else-hardware_type-lt-LOWEST_PASSED_TYPE : goal.returns-else-hardware_type-lt-LOWEST_PASSED_TYPE
+returns-else-hardware_type-lt-LOWEST_PASSED_TYPE c =
     let a = c.args in
-    made (goal.at.returns-else-hardware_type-lt10 c).After-and-host true _
+    made (goal.at.returns-else-hardware_type-lt-LOWEST_PASSED_TYPE c).After-and-host true _
     (sym (le-leb 10 ((config a.words).types a.adapter.0) (omega (arith, c.hardware_type.ensures)))) c.minus-passthrough.ensures
