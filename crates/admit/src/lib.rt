@@ -26,13 +26,13 @@ pub fn in_range(words: &Words, kind: Kind, number: u64) -> bool
 }
 
 // The limit of a kind of number.
+#[tactic(auto, unfolding(rules::specs::Commands::limit_of))]
 fn limit(words: &Words, kind: Kind) -> u8
     ensures { result ≡ limit_of kind (limits words.entry) }
 {
     match kind {
         Kind::Adapter => record::max_adapter(words).0,
-        Kind::Domain => record::max_domain(words).0,
-        Kind::Control => record::max_domain(words).0,
+        Kind::Domain | Kind::Control => record::max_domain(words).0,
     }
 }
 

@@ -9,7 +9,7 @@ ghost use Rattle.layout.specs.Lent.{state};
 ghost use Rattle.due.specs.Due.{Remains};
 
 use layout::{Drivers, Words};
-use mask::{Apid, Apqi, Apqn};
+use mask::{Apid, Apqn};
 use rules::Driver;
 use targetrow::TargetRow;
 
@@ -42,13 +42,10 @@ fn remaining_row(words: &Words, drivers: &Drivers, adapter: Apid) -> u32
     ensures { result ≡ sum_from 256 (adapter.0 * 256) (due_at (state words.entry drivers.entry)) }
 {
     let row = TargetRow::of(words, adapter);
-    let mut sum = 0;
-    for n in 0..256usize {
-        let queue = Apqn {
-            adapter,
-            domain: Apqi(n as u8),
-        };
-        sum += due_by(drivers::driver(drivers, queue), row.target(queue.domain));
-    }
-    sum
+    (0..256usize)
+        .map(|n| {
+            let queue = Apqn::new(adapter.0, n as u8);
+            due_by(drivers::driver(drivers, queue), row.target(queue.domain))
+        })
+        .sum()
 }

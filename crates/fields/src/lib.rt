@@ -97,9 +97,9 @@ fn bytes_at<const N: usize>(bytes: &[u8], at: usize) -> [u8; N]
     requires { at + N ≤ 352 }
     ensures { result ≡ bytes_at bytes.now at N }
 {
+    let there = bytes.get(at..).unwrap_or(&[]);
+    let n = there.len().min(N);
     let mut out = [0; N];
-    for (i, byte) in out.iter_mut().enumerate() {
-        *byte = byte_at(bytes, at + i);
-    }
+    out[..n].copy_from_slice(&there[..n]);
     out
 }

@@ -4,7 +4,7 @@
 // Rests on mask, maskbytes, rules, fields, layout, record, matrixbytes and rows.
 #![tactic(auto)]
 
-ghost use Rattle.std.specs.Prelude.{◌≡◌, ◌++◌, ◌<◌, min, length, get_or};
+ghost use Rattle.std.specs.Prelude.{◌≡◌, min, length};
 ghost use Rattle.layout.specs.Lent.{host, config};
 ghost use Rattle.matrixbytes.specs.Matrices.{mask_bytes};
 ghost use Rattle.hostbytes.specs.Configurations.{type_bytes, configuration_bytes};
@@ -41,28 +41,17 @@ pub fn configuration(words: &Words, out: &mut [u8; CONFIGURATION_BYTES])
         controls: record::configured_controls(words),
     };
     matrixbytes::put_masks(m, &mut front);
-    put(words, &front, out);
+    out[..MASKS_BYTES].copy_from_slice(&front);
+    put_types(words, &mut out[MASKS_BYTES..]);
 }
 
-// Writes the configuration, whose masks are given as bytes.
-fn put(words: &Words, front: &[u8; MASKS_BYTES], out: &mut [u8])
-    requires { (length front.now ≡ 96) × (length out.old ≡ 352) }
-    ensures { out.new ≡ front.now ++ type_bytes (config words.entry) }
+// Writes a byte for the type of each adapter.
+fn put_types(words: &Words, out: &mut [u8])
+    requires { length out.old ≡ 256 }
+    ensures { out.new ≡ type_bytes (config words.entry) }
 {
-    for (i, byte) in out.iter_mut().enumerate() {
-        *byte = byte_at(words, front, i);
-    }
-}
-
-// One byte of the configuration.
-fn byte_at(words: &Words, front: &[u8; MASKS_BYTES], i: usize) -> u8
-    requires { (length front.now ≡ 96) × (i < 352) }
-    ensures { result ≡ get_or (front.now ++ type_bytes (config words.entry)) i 0 }
-{
-    if i < MASKS_BYTES {
-        front[i]
-    } else {
-        type_byte(record::hardware_type(words, Apid((i - MASKS_BYTES) as u8)))
+    for (adapter, byte) in out.iter_mut().enumerate() {
+        *byte = type_byte(record::hardware_type(words, Apid(adapter as u8)));
     }
 }
 

@@ -124,8 +124,11 @@ fn bit(rt: &impl Print, m: Mask, i: u8) -> io::Result<()> {
 pub fn mask_hex(rt: &impl Print, m: Mask) -> io::Result<usize>
     ensures { IfOk result (λ r. r ≡ 64) }
 {
-    let w = m.words;
-    Ok(word_hex(rt, w[0])? + word_hex(rt, w[1])? + word_hex(rt, w[2])? + word_hex(rt, w[3])?)
+    let mut n = 0;
+    for word in &m.words {
+        n += word_hex(rt, *word)?;
+    }
+    Ok(n)
 }
 
 fn word_hex(rt: &impl Print, word: u64) -> io::Result<usize>

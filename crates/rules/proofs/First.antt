@@ -90,21 +90,21 @@ first_of_slots p {r = None} none =
 first_of_slots p {r = Some i} (low, l, here, before) =
     found_at l (skipped slots i p (omega arith) before ∙ turn_here slots i p l here)
 
--- the slots in order
-slot_at : (k : ℕ) → k < slots → k ≡ get_or (range_with_len 0 slots) k 0
-slot_at k l = sym (get_or-range_with_len 0 slots k 0 l ∙ zero-add k)
+-- the numbers below n in order
+at_place : (n k : ℕ) → k < n → k ≡ get_or (range_with_len 0 n) k 0
+at_place n k l = sym (get_or-range_with_len 0 n k 0 l ∙ zero-add k)
 
--- whether the test holds of some slot
-pub some_of_slots : (p : Bits) {r : Bool}
+-- whether the test holds of some number below n
+pub some_of_range : (n : ℕ) (p : Bits) {r : Bool}
     → MatchBool r
-    ((k : ℕ) × (k < length (range_with_len 0 slots)) × HoldsAt (λ x. p x ≡ true) (range_with_len 0 slots) k)
-    (AllWithin (λ x. p x ≡ false) (range_with_len 0 slots) 0 (length (range_with_len 0 slots)))
-    → r ≡ some_below slots p
-some_of_slots p {r = true} (k, l, h) =
-    let l' : k < slots = omega (arith, length-range_with_len 0 slots) in
-    sym (some_intro slots p k l' (ap p (slot_at k l') ∙ h 0))
-some_of_slots p {r = false} none =
-    sym (none_some slots p (λ k l. ap p (slot_at k l) ∙ none k 0 (omega arith) (omega (arith, length-range_with_len 0 slots))))
+      ((k : ℕ) × (k < length (range_with_len 0 n)) × HoldsAt (λ x. p x ≡ true) (range_with_len 0 n) k)
+      (AllWithin (λ x. p x ≡ false) (range_with_len 0 n) 0 (length (range_with_len 0 n)))
+    → r ≡ some_below n p
+some_of_range n p {r = true} (k, l, h) =
+    let l' : k < n = omega (arith, length-range_with_len 0 n) in
+    sym (some_intro n p k l' (ap p (at_place n k l') ∙ h 0))
+some_of_range n p {r = false} none =
+    sym (none_some n p (λ k l. ap p (at_place n k l) ∙ none k 0 (omega arith) (omega (arith, length-range_with_len 0 n))))
 
 -- what is known of a slot that was found, and where none was
 pub found_some : {p q : ℕ} → Some p ≡ found q → (p < slots) × (p ≡ q)

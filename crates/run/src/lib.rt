@@ -38,12 +38,12 @@ pub fn carry_out(
         words.entry words.exit drivers.entry drivers.exit result }
 {
     let mut at = 0usize;
-    for n in 0..answers.len() {
+    for (n, answer) in answers.iter_mut().enumerate() {
         let size = match encoding::size_at(steps, at) {
             Some(size) => size,
             None => return n,
         };
-        answers[n] = step(words, drivers, &steps[at..at + size]);
+        *answer = step(words, drivers, &steps[at..at + size]);
         at += size;
     }
     answers.len()
@@ -54,14 +54,11 @@ fn step(words: &mut Words, drivers: &mut Drivers, bytes: &[u8]) -> u8
     requires { 20 ≤ length bytes.now }
     ensures { StepsOnce bytes.entry words.entry words.exit drivers.entry drivers.exit result }
 {
-    let op = bytes[0];
-    if op <= 8 {
-        return obey(words, drivers, bytes);
+    match bytes[0] {
+        0..=8 => obey(words, drivers, bytes),
+        10 => request::make_sweep(words, drivers, fields::number_of(&bytes[2..])),
+        _ => request::make_move(words, drivers, Apqn::new(bytes[2], bytes[3])),
     }
-    if op == 10 {
-        return request::make_sweep(words, drivers, fields::number_of(&bytes[2..]));
-    }
-    request::make_move(words, drivers, Apqn::new(bytes[2], bytes[3]))
 }
 
 // Carries out a command, and gives its answer as a byte.

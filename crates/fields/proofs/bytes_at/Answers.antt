@@ -1,8 +1,14 @@
--- `bytes_at` meets its contract.
-use Rattle.std.proofs.Common.{arith}
-use Rattle.fields.proofs.Laws.{same_bytes}
+-- `bytes_at` meets its contract: what is there is copied, and zeros follow.
+use Rattle.std.proofs.Common.{refl, ap, ◌∙◌}
+use denote.Ref.{Bor}
+use mathlib.Core.List.{List}
+use Prim.Native.Nat.{ℕ}
+use Rattle.fields.proofs.Laws.{part_there, copied_bytes}
 use Rattle.fields.proofs.bytes_at.Goals as goal
 
 pub returns : goal.returns
 returns g c =
-    same_bytes c.args.bytes.now c.loop-i.byte-items c.args.at g.row.N c.loop-i.invariant.0 (λ j h. c.loop-i.invariant.1 j (omega arith))
+    let b = c.args.bytes.now in
+    copied_bytes b c.unwrap_or-there.result.now c.copy_from_slice.new.self c.args.at c.min-n.result g.row.N
+    (ap (λ (x : Bor (List ℕ)). x.now) c.unwrap_or-there.ensures ∙ part_there b c.args.at c.get.result _ refl c.get.ensures.lookup.0)
+    c.min-n.ensures c.copy_from_slice.ensures.after

@@ -7,14 +7,14 @@ use Rattle.rules.specs.Commands.{product}
 use Rattle.rules.proofs.Products.{taken_by}
 use Rattle.layout.specs.Layout.{device_in}
 use Rattle.product.specs.Meet.{queues_of}
-use Rattle.rules.proofs.First.{some_of_slots}
+use Rattle.rules.proofs.First.{some_of_range}
 use Rattle.lookup.proofs.taken.Goals as goal
 
 pub returns : goal.returns
 returns c =
     let a = c.args in
     let p : Bits = λ j. not (eqb j a.slot) && some_below queues (both (queues_of a.wanted) (product (device_in a.words.now j))) in
-    some_of_slots p
+    some_of_range 8 p
     (cases_from_any _ _ _ (λ k. p k ≡ true) (λ k. p k ≡ false) c.any.ensures.ran
     (YieldsList-from_range 0 8 8 refl refl)
     (λ x q h. search rules) (λ x q h. (search rules, search rules)))

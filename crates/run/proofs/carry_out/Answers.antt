@@ -1,5 +1,6 @@
 -- `carry_out` meets its contract. The invariant: what was done and what is left make up what the whole list comes to.
 use native.Mathlib.Omega.{arith}
+use Rattle.std.proofs.lemmas.List.{set-get_or}
 use Rattle.run.proofs.Laws.{Left, part_long, step_left, starts, goes_on_lem, ends_early, ends_full}
 use Rattle.run.proofs.carry_out.Goals.{In-Some}
 use Rattle.run.proofs.carry_out.Goals as goal
@@ -12,7 +13,7 @@ pub loop-n-init : goal.loop-n-init
 loop-n-init c = starts _ _ _
 
 pub returns-in-None : goal.returns-in-None
-returns-in-None c = ends_early c.loop-n.invariant c.in-None.ensures
+returns-in-None c = rw (set-get_or c.loop-n.answers c.loop-n.n 0) (ends_early c.loop-n.invariant c.in-None.ensures)
 
 pub overflow_add-at : goal.overflow_add-at
 overflow_add-at c = omega (arith, found (goal.at.overflow_add-at c).In-Some)
