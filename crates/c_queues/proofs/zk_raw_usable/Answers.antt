@@ -6,4 +6,4 @@ use Rattle.c_queues.proofs.zk_raw_usable.Goals as goal
 
 pub returns : goal.returns
 returns c =
-    c.from.ensures ∙ flag_is _ ∙ ap bit (rw (c.id_of-id.ensures, c.queue.ensures.queue) at c.usable.ensures)
+    c.from.ensures ∙ flag_is _ ∙ ap bit (rw (c.id_of-id.ensures, c.new.ensures.adapter, c.new.ensures.domain) at c.usable.ensures)

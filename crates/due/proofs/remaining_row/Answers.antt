@@ -1,7 +1,7 @@
 -- `remaining_row` meets its contract: each queue adds what is due of it, at most two.
-use Prim.Native.Nat.{ℕ, ◌+◌, ◌*◌}
+use Prim.Native.Nat.{◌+◌, ◌*◌}
 use native.Mathlib.Omega.{arith}
-use mathlib.Core.Path.{◌≡◌, sym, ap, ap₂, ◌∙◌}
+use mathlib.Core.Path.{◌≡◌, sym, ap₂, ◌∙◌}
 use Rattle.rules.specs.Queues.{due, due_at, sum_from}
 use Rattle.rules.proofs.Sums.{sum_from_none, sum_from_more, sum_from_le}
 use Rattle.rules.proofs.Moves.{due_two}
@@ -36,9 +36,3 @@ overflow_add-sum c =
 
 pub loop-n-preserved : goal.loop-n-preserved
 loop-n-preserved c = next (goal.at.loop-n-preserved c).After-due_by-sum
-
-pub returns : goal.returns
-returns c =
-    let a = c.args in
-    let last : c.loop-n.n ≡ 256 = omega arith in
-    c.loop-n.invariant ∙ ap (λ (i : ℕ). sum_from i (a.adapter.0 * 256) (due_at (state_in a.words.now a.drivers.now))) last

@@ -1,18 +1,10 @@
 -- `byte_at` meets its contract.
 use Prim.Native.Nat.{ℕ, min}
 use native.Mathlib.Omega.{arith}
-use mathlib.Core.Path.{ap, sym, ◌∙◌}
-use lib.ListN.{get_or-append}
+use mathlib.Core.Path.{ap, ◌∙◌}
 use Rattle.layout.specs.Lent.{config}
-use Rattle.hostbytes.specs.Configurations.{type_bytes}
 use Rattle.hostbytes.proofs.Laws.{type_at}
 use Rattle.hostbytes.proofs.byte_at.Goals as goal
-
-pub returns-then-i-lt-MASKS_BYTES : goal.returns-then-i-lt-MASKS_BYTES
-returns-then-i-lt-MASKS_BYTES c =
-    let a = c.args in
-    sym (get_or-append a.front.now (type_bytes (config a.words)) 0 a.i (omega arith))
-
 pub returns-else-i-lt-MASKS_BYTES : goal.returns-else-i-lt-MASKS_BYTES
 returns-else-i-lt-MASKS_BYTES c =
     let s = c in

@@ -8,9 +8,6 @@ use Rattle.lines.proofs.write.Goals.{then-has+else-buf-at-lt-LINE, else-has}
 pub loop-queue-init : goal.loop-queue-init
 loop-queue-init c = sofar_start _ _ _
 
-pub shape_of-buf-then-buf-at-lt-LINE : goal.shape_of-buf-then-buf-at-lt-LINE
-shape_of-buf-then-buf-at-lt-LINE c = c.loop-queue.invariant.long
-
 pub returns-then-buf-at-lt-LINE : goal.returns-then-buf-at-lt-LINE
 returns-then-buf-at-lt-LINE c =
     let h = c in
@@ -23,9 +20,6 @@ loop-queue-preserved c =
       | then-has+else-buf-at-lt-LINE w ↦ rw (w.buf-is, w.at-is, w.next-is) (sofar_line s (omega arith) (sym c.has.ensures ∙ w.if-has.true) (omega arith) (w.put_line.ensures))
       | else-has w ↦ rw (w.buf-is, w.at-is, w.next-is) (sofar_skip s (omega arith) (sym c.has.ensures ∙ w.if-has.false))
     ]
-
-pub shape_of-buf : goal.shape_of-buf
-shape_of-buf c = c.loop-queue.invariant.long
 
 pub returns : goal.returns
 returns c = sofar_end c.loop-queue.invariant (omega arith)

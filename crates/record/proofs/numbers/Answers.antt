@@ -8,7 +8,7 @@ use Rattle.rules.specs.declared.Kind.TheVariants.{Adapter, Domain, Control}
 use Rattle.rules.specs.State.{no_device}
 use Rattle.rules.specs.Commands.{numbers_of}
 use Rattle.layout.specs.Layout.{mask_at}
-use Rattle.layout.proofs.Laws.{device_there_lem, device_past, numbers_there, kind_small}
+use Rattle.layout.proofs.Laws.{device_there_lem, device_past, numbers_there}
 use Rattle.record.proofs.numbers.Goals as goal
 
 pub returns-then-slot-lt-SLOTS : goal.returns-then-slot-lt-SLOTS
@@ -28,9 +28,3 @@ returns-else-slot-lt-SLOTS c =
     none Adapter = refl
     none Domain = refl
     none Control = refl
-
-pub overflow_add-slot-then-slot-lt-SLOTS : goal.overflow_add-slot-then-slot-lt-SLOTS
-overflow_add-slot-then-slot-lt-SLOTS c = omega (arith, kind_small c.args.kind)
-
-pub mask_at-requires : goal.mask_at-requires
-mask_at-requires c = omega (arith, kind_small c.args.kind)

@@ -3,9 +3,6 @@ use Rattle.request.proofs.Laws.{as_asked, is_move}
 use Rattle.run.proofs.Laws.{of_budget}
 use Rattle.run.proofs.step.Goals as goal
 
-pub returns-then-op-le8 : goal.returns-then-op-le8
-returns-then-op-le8 c = c.obey.ensures
-
 pub returns-then-op-eq10 : goal.returns-then-op-eq10
 returns-then-op-eq10 c =
     let b = c.args.bytes.now in
@@ -14,4 +11,4 @@ returns-then-op-eq10 c =
 pub returns : goal.returns
 returns c =
     let b = c.args.bytes.now in
-    as_asked (is_move b c.if-op-le8.false c.if-op-eq10.false) c.make_move.ensures
+    as_asked (is_move b c.if-op-le8.false c.if-op-eq10.false) (rw (c.new.ensures.adapter, c.new.ensures.domain) at c.make_move.ensures)

@@ -1,8 +1,0 @@
--- `put_line` meets its contract: the line is copied.
-use Rattle.std.proofs.Common.{arith}
-use Rattle.lines.proofs.Laws.{line_put}
-use Rattle.lines.proofs.put_line.Goals as goal
-
-pub returns : goal.returns
-returns c =
-    line_put c.args.buf.now c.args.at _ c.args.queue c.copy_from_slice.new.self (omega arith) (cc)
