@@ -7,16 +7,9 @@ use mathlib.Core.List.{List, ◌++◌}
 use mathlib.Core.Path.{◌≡◌, ap, sym, ◌∙◌}
 use lib.ListN.{length, get_or, length-append}
 use lib.Seq.{get_or-append-add}
-use Rattle.mask.specs.Bits.{Bits}
 use Rattle.rules.specs.State.{Config}
-use Rattle.matrixbytes.specs.Matrices.{mask_bytes}
-use Rattle.matrixbytes.proofs.Laws.{mask_long}
 use Rattle.rows.proofs.Laws.{row_long, row_at}
 use Rattle.hostbytes.specs.Configurations.{type_bytes}
-
--- three masks are 96 bytes
-pub masks_long : (a b c : Bits) → length (mask_bytes a ++ (mask_bytes b ++ mask_bytes c)) ≡ 96
-masks_long a b c = simp (length-append, mask_long)
 
 module _ (c : Config) (front : List ℕ) where
   -- how many bytes there are

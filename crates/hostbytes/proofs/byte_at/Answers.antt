@@ -5,6 +5,7 @@ use mathlib.Core.Path.{ap, ◌∙◌}
 use Rattle.layout.specs.Lent.{config}
 use Rattle.hostbytes.proofs.Laws.{type_at}
 use Rattle.hostbytes.proofs.byte_at.Goals as goal
+
 pub returns-else-i-lt-MASKS_BYTES : goal.returns-else-i-lt-MASKS_BYTES
 returns-else-i-lt-MASKS_BYTES c =
     let s = c in

@@ -5,6 +5,7 @@ use mathlib.Core.Path.{ap, ◌∙◌}
 use Rattle.layout.specs.Lent.{config}
 use Rattle.hostbytes.specs.Configurations.{type_bytes, configuration_bytes}
 use Rattle.hostbytes.proofs.configuration.Goals as goal
+
 pub returns : goal.returns
 unfolding configuration_bytes
 returns c =

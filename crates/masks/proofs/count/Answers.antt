@@ -7,6 +7,7 @@ use lib.Count.{ones}
 use Rattle.mask.specs.Bits.{Sized, bits}
 use Rattle.mask.proofs.Laws.{mask_words_lem, count_next, count_le}
 use Rattle.masks.proofs.count.Goals as goal
+
 pub returns : goal.returns
 returns c =
     let x = c.args.mask.words in

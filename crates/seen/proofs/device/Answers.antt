@@ -4,6 +4,7 @@ use mathlib.Core.Path.{refl, sym, ap, ◌∙◌}
 use Rattle.shown.specs.Shown.{bit}
 use Rattle.shown.proofs.Laws.{flag_is}
 use Rattle.seen.proofs.device.Goals as goal
+
 pub returns : goal.returns
 returns c =
     let f = c in
