@@ -7,7 +7,7 @@ ghost use Rattle.std.specs.Prelude.{◌≡◌};
 ghost use Rattle.copy.specs.Copied.{copied};
 
 // Copies bytes to an index of a buffer. Where they do not fit, nothing is written.
-#[tactic(auto, using(std::proofs::lemmas::Bool::Decides::nat_tests), unfolding(crate::specs::Copied::copied))]
+#[tactic(auto, unfolding(crate::specs::Copied::copied))]
 pub fn copy(buf: &mut [u8], at: usize, bytes: &[u8])
     ensures { buf.new ≡ copied buf.old at bytes.now }
 {

@@ -1,7 +1,7 @@
 // What the texts of numbers and of masks have in common: the final newline, the prefix 0x, digits.
 //
 // Rests on nothing.
-#![tactic(auto, using(std::proofs::lemmas::Bool::Decides::nat_tests), unfolding(crate::specs::Digits::digit_found, crate::specs::Digits::digit_of, crate::specs::Digits::hex_digit))]
+#![tactic(auto)]
 
 ghost use Rattle.std.specs.Prelude.{◌≡◌, ◌%◌};
 ghost use Rattle.digits.specs.Digits.{digit_found, hex_digit, body, starts_hex};
@@ -20,6 +20,7 @@ pub fn starts_hex(s: &[u8]) -> bool
 }
 
 // The value of a byte as a digit.
+#[tactic(auto, unfolding(crate::specs::Digits::digit_found, crate::specs::Digits::digit_of))]
 pub fn digit_of(c: u8) -> Option<u8>
     ensures { result ≡ digit_found c }
 {
@@ -33,6 +34,7 @@ pub fn digit_of(c: u8) -> Option<u8>
 
 // The lower-case hex digit of a number below 16; larger ones begin again. What is added is chosen, and not the sum: the
 // kit's compiler and rustc make fewer instructions of that.
+#[tactic(auto, unfolding(crate::specs::Digits::hex_digit))]
 pub fn hex_digit(n: u8) -> u8
     ensures { result ≡ hex_digit (n % 16) }
 {

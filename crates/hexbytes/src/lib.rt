@@ -49,7 +49,7 @@ fn bytes<const N: usize>(s: &[u8]) -> Result<[u8; N], Errno>
 }
 
 // The value of a hex digit.
-#[tactic(auto, using(std::proofs::lemmas::Bool::Decides::nat_tests), unfolding(digits::specs::Digits::digit_found))]
+#[tactic(auto, unfolding(digits::specs::Digits::digit_found))]
 fn hex(c: u8) -> Result<u8, Errno>
     ensures { MatchResult result (λ d. (d ≡ digit_of c) × (d < 16)) (λ e. (e ≡ Einval) × (16 ≤ digit_of c)) }
 {

@@ -9,7 +9,6 @@ use mathlib.Core.Bool.{Bool, true, false, cond}
 use mathlib.Core.List.{List, [], ◌∷◌, ◌++◌, append-nil, append_assoc}
 use lib.ListN.{length, take, drop, length-append, length-drop}
 use lib.Seq.{take_all, take_at, drop_at, drop-drop, append_snoc}
-use borrow.Rule.Slice.PartMut.{put_mid}
 use borrow.Author.Tests.{le-leb, lt-leb}
 use Rattle.mask.specs.Bits.{Bits, count_below}
 use Rattle.mask.proofs.Laws.{count_cong, count_add}
@@ -42,12 +41,6 @@ count_queues m = length_queues queues 0 m ∙ count_cong queues (λ i. m (0 + i)
 pub line_long : (q : ℕ) → length (line_of q) ≡ 8
 unfolding line_of
 line_long q = refl
-
--- a line that is copied to an index
-pub line_put : (b : List ℕ) (k n q : ℕ) (ys : List ℕ) → n ≡ 8 → ys ≡ line_of q → put_mid k n b ys ≡ with_line b k q
-line_put b k n q ys h e =
-    rw (h, e)
-    (ap (λ (l : List ℕ). take k b ++ (line_of q ++ l)) (drop-drop 8 k b) ∙ sym (append_assoc (take k b) (line_of q) (drop (k + 8) b)))
 
 lines_long : (qs : List ℕ) → length (lines_of qs) ≡ 8 * length qs
 unfolding lines_of

@@ -24,7 +24,6 @@ pub fn parse(s: &[u8], old: Mask) -> Result<Mask, Errno>
 }
 
 // The hex digits of a mask.
-#[tactic(auto, using(std::proofs::lemmas::Bool::Decides::nat_tests), unfolding(crate::specs::Text::outcome, crate::specs::Text::hex_mask, crate::specs::Text::all_hex))]
 fn hex_mask(s: &[u8]) -> Result<Mask, Errno>
     ensures { outcome result ≡ hex_mask s.now }
 {
@@ -51,7 +50,6 @@ fn items(s: &[u8], old: Mask) -> Result<Mask, Errno>
 }
 
 // One item, worked on a mask.
-#[tactic(auto, using(std::proofs::lemmas::Bool::Decides::nat_tests, number::proofs::Laws::rule_le), unfolding(errno::specs::Outcome::outcome, crate::specs::Text::outcome, crate::specs::Text::item, crate::specs::Text::signed))]
 fn item(s: &[u8], m: Mask) -> Result<Mask, Errno>
     ensures { outcome result ≡ Text.item (bits m) s.now }
 {

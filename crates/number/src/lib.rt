@@ -20,7 +20,6 @@ pub fn parse(s: &[u8]) -> Result<u16, Errno>
 }
 
 // A number of at most limit, with no newline.
-#[tactic(auto, using(std::proofs::lemmas::Bool::Decides::nat_tests, digits::proofs::Laws::prefix_is), unfolding(errno::specs::Outcome::outcome, crate::specs::Text::any_base, crate::specs::Text::number_rule))]
 pub fn parse_at_most(s: &[u8], limit: u16) -> Result<u16, Errno>
     ensures { outcome result ≡ number_rule limit s.now }
 {
@@ -37,7 +36,6 @@ pub fn parse_at_most(s: &[u8], limit: u16) -> Result<u16, Errno>
 }
 
 // The value of one digit or more. It never passes the limit, so it never wraps.
-#[tactic(auto, using(std::proofs::lemmas::Bool::Decides::nat_tests), unfolding(errno::specs::Outcome::outcome, crate::specs::Text::at_most, crate::specs::Text::digits, crate::specs::Text::digits_after))]
 fn digits_in(s: &[u8], base: u8, limit: u16) -> Result<u16, Errno>
     requires { base ≤ 16 }
     ensures { outcome result ≡ at_most limit (digits base s.now) }
@@ -53,7 +51,6 @@ fn digits_in(s: &[u8], base: u8, limit: u16) -> Result<u16, Errno>
 }
 
 // The value after one more digit.
-#[tactic(auto, using(std::proofs::lemmas::Bool::Decides::nat_tests), unfolding(errno::specs::Outcome::outcome, digits::specs::Digits::digit_found, crate::specs::Text::at_most))]
 fn one_more(v: u16, base: u8, c: u8, limit: u16) -> Result<u16, Errno>
     requires { base ≤ 16 }
     ensures { outcome result ≡ cond (ltb (digit_of c) base) (at_most limit (granted (v * base + digit_of c))) (refused Einval) }

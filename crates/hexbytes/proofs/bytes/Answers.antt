@@ -1,10 +1,9 @@
 -- `bytes` meets its contract. The invariant: what is found of the text up to byte i.
 use native.Mathlib.Omega.{arith}
 use mathlib.Core.Path.{refl, ap, ◌∙◌}
-use lib.ListN.{length-replicate}
 use Rattle.errno.specs.Outcome.{refused, outcome}
 use Rattle.errno.proofs.Outcomes.{passed}
-use Rattle.hexbytes.proofs.Laws.{other_length, starts, bad_high, bad_low, goes_on, full}
+use Rattle.hexbytes.proofs.Laws.{other_length, bad_high, bad_low, goes_on, full}
 use Rattle.hexbytes.proofs.bytes.Goals as goal
 
 pub returns-then-s : goal.returns-then-s
@@ -14,9 +13,6 @@ returns-then-s g c = other_length _ _ (λ e. absurd (c.if-s.true (omega arith)))
 pub returns-then-s-ne0 : goal.returns-then-s-ne0
 unfolding outcome
 returns-then-s-ne0 g c = other_length _ _ (λ e. absurd (c.if-s-ne0.true (omega arith)))
-
-pub loop-i-init : goal.loop-i-init
-loop-i-init g c = starts _ _ (length-replicate g.row.N 0) (omega arith)
 
 pub returns-in_err-high : goal.returns-in_err-high
 unfolding outcome

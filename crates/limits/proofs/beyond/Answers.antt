@@ -8,7 +8,7 @@ use lib.ListN.{get_or}
 use lib.Dec.{eqb, ltb}
 use borrow.Author.Tests.{lt-ltb, le-ltb, ltb-true, ltb-false, eqb-true, eqb-false}
 use Rattle.mask.specs.Bits.{digit, bits_above}
-use Rattle.mask.proofs.Bit.{digit_zero, digit_ones, one_shl, one_shl_pos}
+use Rattle.mask.proofs.Bit.{digit_zero, digit_ones, one_shl}
 use Rattle.mask.proofs.Laws.{same_test, each_bits, below_four}
 use Rattle.limits.proofs.beyond.Goals as goal
 
@@ -50,6 +50,3 @@ returns c =
     fun_ext
     (each_bits 64 4 ws (bits_above n) (omega arith) refl
     (λ q j l m. ap (λ (x : ℕ). digit x (63 - j)) (words q l) ∙ above n q j l m) (past n))
-
-pub overflow_sub-part-2 : goal.overflow_sub-part-2
-overflow_sub-part-2 c = one_shl_pos 64 _ (omega arith)

@@ -19,8 +19,3 @@ loop-q-preserved c =
     let more = words_more q (bits c.args.m) in
     let put = take-put_mid (8 * q) (8 * q + 8 - 8 * q) c.loop-q.out ys (8 * (q + 1)) (omega arith) (omega arith) in
     record { long = grind (arith, common_steps); done = cc }
-
-pub returns : goal.returns
-returns c =
-    let all : c.loop-q.q ≡ 4 = omega arith in
-    grind (arith, common_steps)

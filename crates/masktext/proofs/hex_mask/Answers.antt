@@ -1,6 +1,7 @@
 -- `hex_mask` meets its contract: one digit more, or a byte that is none.
 use Rattle.std.proofs.Common.{◌≡◌, ℕ, ◌<◌, ◌∙◌, sym, ap, ap₂, arith, rules, true, false, get_or}
 use Rattle.std.proofs.lemmas.Bool.Decides.{nat_tests}
+use Rattle.std.proofs.lemmas.Grind.{common_steps}
 use lib.Dec.{ltb}
 use borrow.Author.Tests.{lt-ltb}
 use Rattle.mask.specs.Bits.{Bits, bits, either, group}
@@ -34,3 +35,11 @@ loop-i-preserved c =
       shown = c.with_nibble-m.ensures ∙ ap₂ (λ (g v : ℕ). either (bits c.loop-i.m) (group 4 g v)) (omega arith) (omega arith)
           ∙ ap (λ (b : Bits). either b (group 4 i (digit_of (get_or s i 0)))) c.loop-i.invariant.shown ∙ sym (hex_turn s i (omega arith));
     }
+
+pub returns-then-is_empty : goal.returns-then-is_empty
+unfolding outcome hex_mask
+returns-then-is_empty c = grind (arith, common_steps)
+
+pub returns : goal.returns
+unfolding outcome hex_mask all_hex
+returns c = grind (arith, common_steps)

@@ -5,11 +5,6 @@ use Rattle.shown.specs.Shown.{bit}
 use Rattle.shown.proofs.Laws.{flag_is}
 use Rattle.seen.proofs.device.Goals as goal
 
-pub returns-then-not-present : goal.returns-then-not-present
-returns-then-not-present c =
-    let none = sym c.present.ensures ∙ c.if-not-present.true in
-    record { there = λ e. absurd (true≢false (sym e ∙ none)); absent = λ e. (c.from.ensures, refl, refl) }
-
 pub returns : goal.returns
 returns c =
     let f = c in

