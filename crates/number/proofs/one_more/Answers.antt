@@ -1,4 +1,4 @@
--- `one_more` meets its contract. The text is bad where the byte is no digit at all.
+-- `one_more` meets its contract. The text is bad where the byte is no digit of the base.
 use Rattle.std.proofs.Common.{arith}
 use Rattle.std.proofs.lemmas.Grind.{common_steps}
 use Rattle.errno.specs.Outcome.{outcome}
@@ -10,10 +10,6 @@ use Rattle.number.proofs.one_more.Goals as goal
 pub returns-in_err-d : goal.returns-in_err-d
 unfolding digit_found
 returns-in_err-d c = rw (passed _ _ c.from_residual.ensures.1) (grind (arith, common_steps))
-
-pub returns-then-base-d : goal.returns-then-base-d
-unfolding outcome digit_found
-returns-then-base-d c = grind (arith, common_steps)
 
 pub returns-then-from-next : goal.returns-then-from-next
 unfolding outcome digit_found at_most
