@@ -1,6 +1,6 @@
--- A line that is answered, and one for whose answer there is no room.
+-- A line that is answered.
 -- Assumes nothing.
-use Prim.Native.Nat.{ℕ, ◌+◌, ◌≤◌, ◌<◌}
+use Prim.Native.Nat.{ℕ, ◌+◌, ◌≤◌}
 use native.Mathlib.Nat.{zero-add}
 use native.Mathlib.Omega.{arith}
 use mathlib.Core.Bool.{Bool, cond}
@@ -9,23 +9,11 @@ use mathlib.Core.Path.{◌≡◌, refl, sym, ap, ap₂, subst, ◌∙◌}
 use lib.ListN.{length, drop}
 use lib.Seq.{paste, take-length}
 use borrow.Author.Tests.{le-leb}
-use Rattle.errno.specs.Errno.{number_of}
-use Rattle.errno.specs.declared.Errno.TheVariants.{Enospc}
 use Rattle.layout.specs.Carried.{Memory}
 use Rattle.answerline.specs.Answers.{longest, Put}
 use Rattle.linetext.specs.Lines.{line_request}
 use Rattle.consoleline.specs.Answering.{answer_line, Answered}
 use Rattle.c_line.specs.Served.{LineServed}
-
-pub served_not : (line : List ℕ) (m : Memory) (out : List ℕ) {w r : ℕ} → length out < longest → r ≡ number_of Enospc → LineServed line m m out out w w r
-served_not line m out h e =
-    record {
-      short = λ l. (e, refl, refl, refl);
-      answered = λ l. absurd (omega arith);
-      written = λ l. absurd (omega arith);
-      out = λ l. absurd (omega arith);
-      done = λ l. absurd (omega arith);
-    }
 
 pub served : {line text out out' : List ℕ} {m n : Memory} {old w : ℕ} → longest ≤ length out → Answered (line_request line) m n text → Put text 0 out out' w
     → LineServed line m n out out' old w 0

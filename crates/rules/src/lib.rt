@@ -89,7 +89,6 @@ pub fn answer_number(answer: Answer) -> u8
 impl From<Moved> for u8 {
     ghost from_gives = { λ m n. n ≡ moved_number m };
 
-    #[tactic(auto, unfolding(crate::specs::Queues::moved_number))]
     fn from(moved: Moved) -> u8 {
         match moved {
             Moved::Idle => 0,
