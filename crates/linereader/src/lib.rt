@@ -29,7 +29,7 @@ impl<'a> LineReader<'a> {
 
     // The word at the reader's place, which moves on to the next one; none past the end of the line.
     pub fn next(&mut self) -> Option<&'a [u8]>
-        ensures word { MatchOption result (left self.old ≡ []) (λ w. left self.old ≡ w.now ∷ left self.new) }
+        ensures word { MatchOption result ((left self.old ≡ []) × (left self.new ≡ [])) (λ w. left self.old ≡ w.now ∷ left self.new) }
         ensures line { self.new.line ≡ self.old.line }
     {
         if self.line.len() < self.at {
