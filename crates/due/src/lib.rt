@@ -30,11 +30,9 @@ pub fn due_by(driver: Driver, target: Driver) -> u32
 pub fn remaining(words: &Words, drivers: &Drivers) -> u32
     ensures { Remains words.entry drivers.entry result }
 {
-    let mut sum = 0;
-    for adapter in 0..=255u8 {
-        sum += remaining_row(words, drivers, Apid(adapter));
-    }
-    sum
+    (0..=255u8)
+        .map(|adapter| remaining_row(words, drivers, Apid(adapter)))
+        .sum()
 }
 
 // Those of one adapter's queues.

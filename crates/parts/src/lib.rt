@@ -3,8 +3,8 @@
 // Rests on split.
 #![tactic(auto)]
 
-ghost use Rattle.std.specs.Prelude.{◌≡◌, ◌≤◌, length, drop};
-ghost use Rattle.parts.specs.Parts.{past, part};
+ghost use Rattle.std.specs.Prelude.{◌≡◌};
+ghost use Rattle.parts.specs.Parts.{part};
 
 // Part k of a text, where the first is 0. A text with fewer has the empty part there.
 pub fn part(s: &[u8], c: u8, k: usize) -> &[u8]
