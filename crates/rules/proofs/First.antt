@@ -97,8 +97,8 @@ at_place n k l = sym (get_or-range_with_len 0 n k 0 l ∙ zero-add k)
 -- whether the test holds of some number below n
 pub some_of_range : (n : ℕ) (p : Bits) {r : Bool}
     → MatchBool r
-      ((k : ℕ) × (k < length (range_with_len 0 n)) × HoldsAt (λ x. p x ≡ true) (range_with_len 0 n) k)
-      (AllWithin (λ x. p x ≡ false) (range_with_len 0 n) 0 (length (range_with_len 0 n)))
+    ((k : ℕ) × (k < length (range_with_len 0 n)) × HoldsAt (λ x. p x ≡ true) (range_with_len 0 n) k)
+    (AllWithin (λ x. p x ≡ false) (range_with_len 0 n) 0 (length (range_with_len 0 n)))
     → r ≡ some_below n p
 some_of_range n p {r = true} (k, l, h) =
     let l' : k < n = omega (arith, length-range_with_len 0 n) in
