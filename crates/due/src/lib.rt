@@ -30,9 +30,11 @@ pub fn due_by(driver: Driver, target: Driver) -> u32
 pub fn remaining(words: &Words, drivers: &Drivers) -> u32
     ensures { Remains words.entry drivers.entry result }
 {
-    (0..=255u8)
-        .map(|adapter| remaining_row(words, drivers, Apid(adapter)))
-        .sum()
+    let mut sum = 0;
+    for adapter in 0..=255u8 {
+        sum += remaining_row(words, drivers, Apid(adapter));
+    }
+    sum
 }
 
 // Those of one adapter's queues.
