@@ -63,6 +63,8 @@ def point3(commit):
     for crate, text in sources(commit):
         for m in re.finditer(r"^ *(while|loop)\b.*", text, re.M):
             yield f"{crate}: {m[0].strip()}"
+        for m in re.finditer(r"^ *for .+(?:\.\.|enumerate).*", text, re.M):
+            yield f"a count in {crate}: {m[0].strip()}"
 
 
 def point4(commit):

@@ -649,3 +649,7 @@ carried_as rule rule' effect effect' ws {vs} {r} h e c =
       state = (c qs).state ∙ ap (state_after (state_in ws qs)) (sym (h qs));
       bytes = (c qs).bytes ∙ ap₂ (λ (o : Outcome State) (l : List ℕ). memory_after (memory ws qs) o (memory l qs)) (sym (h qs)) (sym e);
     }
+
+-- where a slot lies that there is
+pub slot_found : {r p : ℕ} → p < slots → r ≡ device_at (min p slots) → r ≡ device_at p
+slot_found l e = e ∙ ap device_at (min-eq_left (omega arith))

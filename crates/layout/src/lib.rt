@@ -5,7 +5,7 @@
 // Rests on errno, mask and rules.
 #![tactic(auto)]
 
-ghost use Rattle.std.specs.Prelude.{◌≡◌, ◌<◌};
+ghost use Rattle.std.specs.Prelude.{◌≡◌, min};
 ghost use Rattle.mask.specs.Bits.{Small, Sized};
 ghost use Rattle.rules.specs.State.{queues, slots};
 ghost use Rattle.layout.specs.Layout.{word_count, device_at, kind_at};
@@ -79,12 +79,11 @@ fn small_bytes(bytes: &[u8])
     let _ = bytes;
 }
 
-// Where a slot lies.
+// Where a slot lies; where the words end, for one past the last.
 pub fn slot_at(slot: usize) -> usize
-    requires { slot < slots }
-    ensures { result ≡ device_at slot }
+    ensures { result ≡ device_at (min slot slots) }
 {
-    FIRST_SLOT + slot * SLOT_WORDS
+    FIRST_SLOT + slot.min(SLOTS) * SLOT_WORDS
 }
 
 // Where the mask of a kind lies in a slot.

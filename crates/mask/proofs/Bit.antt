@@ -167,9 +167,6 @@ digit_ones s k = go (ltb k s) refl
 pub one_shl : (w s : ℕ) → s < w → 1 * 2 ^ s % 2 ^ w ≡ 2 ^ s
 one_shl w s h = shl_exact 1 s w (le_refl 2) (omega arith) ∙ one-mul (2 ^ s)
 
-pub one_shl_pos : (w s : ℕ) → s < w → 1 ≤ 1 * 2 ^ s % 2 ^ w
-one_shl_pos w s h = subst (λ (x : ℕ). 1 ≤ x) (sym (one_shl w s h)) (pow_pos s)
-
 -- ---- a number by its digits
 
 -- the digits of a number are the lowest and those of its half

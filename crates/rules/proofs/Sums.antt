@@ -2,20 +2,10 @@
 -- Assumes nothing.
 use Prim.Native.Nat.{ℕ, zero, suc, ◌+◌, ◌*◌, ◌≤◌, ◌<◌}
 use native.Mathlib.Nat.{add-zero, zero-add, eq-or-lt_of_le, le_of_suc-le-suc, le_refl, mul-suc}
-use native.Mathlib.Numerals.{add-one}
 use native.Mathlib.Omega.{arith}
 use mathlib.Core.Path.{◌≡◌, refl, sym, ap, ap₂, subst, ◌∙◌}
 use mathlib.Core.Logic.{⊎_elim}
 use Rattle.rules.specs.Queues.{sum_below, sum_from}
-
--- no term, and one term more
-pub sum_none : (f : ℕ → ℕ) → sum_below 0 f ≡ 0
-unfolding sum_below
-sum_none f = refl
-
-pub sum_more : (n : ℕ) (f : ℕ → ℕ) → sum_below (n + 1) f ≡ sum_below n f + f n
-unfolding sum_below
-sum_more n f = rw add-one refl
 
 -- equal terms, equal sums
 pub sum_cong : (n : ℕ) (f g : ℕ → ℕ) → ((j : ℕ) → j < n → f j ≡ g j) → sum_below n f ≡ sum_below n g
@@ -87,9 +77,6 @@ sum_from_parts (suc m) n k f =
 pub sum_from_one : (k : ℕ) (f : ℕ → ℕ) → sum_from 1 k f ≡ f k
 unfolding sum_from
 sum_from_one k f = add-zero (f k)
-
-pub sum_from_more : (n k : ℕ) (f : ℕ → ℕ) → sum_from (n + 1) k f ≡ sum_from n k f + f (k + n)
-sum_from_more n k f = omega (arith, sum_from_parts n 1 k f, sum_from_one (k + n) f)
 
 -- together with the terms below k
 pub sum_split : (n k : ℕ) (f : ℕ → ℕ) → sum_below k f + sum_from n k f ≡ sum_below (k + n) f

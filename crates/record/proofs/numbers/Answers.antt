@@ -8,14 +8,14 @@ use Rattle.rules.specs.declared.Kind.TheVariants.{Adapter, Domain, Control}
 use Rattle.rules.specs.State.{no_device}
 use Rattle.rules.specs.Commands.{numbers_of}
 use Rattle.layout.specs.Layout.{mask_at}
-use Rattle.layout.proofs.Laws.{device_there_lem, device_past, numbers_there, kind_small}
+use Rattle.layout.proofs.Laws.{slot_found, device_there_lem, device_past, numbers_there, kind_small}
 use Rattle.record.proofs.numbers.Goals as goal
 
 pub returns-then-slot-lt-SLOTS : goal.returns-then-slot-lt-SLOTS
 unfolding mask_at
 returns-then-slot-lt-SLOTS c =
     let a = c.args in
-    ap (bit_at 64) c.mask_at.ensures ∙ ap₂ (λ (p n : ℕ). mask_at a.words.now (p + n)) c.slot_at.ensures c.kind_at.ensures
+    ap (bit_at 64) c.mask_at.ensures ∙ ap₂ (λ (p n : ℕ). mask_at a.words.now (p + n)) (slot_found (omega arith) c.slot_at.ensures) c.kind_at.ensures
     ∙ sym (numbers_there a.words.now a.slot a.kind) ∙ ap (numbers_of a.kind) (sym (device_there_lem a.words.now a.slot (omega arith)))
 
 pub returns-else-slot-lt-SLOTS : goal.returns-else-slot-lt-SLOTS
