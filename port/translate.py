@@ -56,7 +56,7 @@ PRELUDE = re.compile(r"\b(HostRuntime|Input|Print)\b")
 # what a line of code that is copied must not have, beside what is not ASCII
 STRANGE = re.compile(
     r"\b(ghost|requires|ensures|invariant|decreases|assert\w*|assume\w*|unsafe|extern|(?<!')static|mod)\b"
-    r'|#!?\[|\w!\(|\bb?r#*"'
+    r'|#!?\[|\w\s*!\(|\bb?r#*"'
 )
 
 LIBRARY_HEAD = """\

@@ -49,6 +49,7 @@ GOOD = {
         "fn main(rt: HostRuntime) -> io::Result<()> {\n}",
         "pub fn main(rt: HostRuntime) -> io::Result<()> {\n}",
     ),
+    "a test that begins a line": ("    !(x)", "    !(x)"),
     "print": ('    print!(rt; "{x:016x}")?;', '    print!(rt; "{x:016x}")?;'),
     "a string over lines": (
         'fn f() {\n    g(b\'"\', b"x", b"a\\\n        ghost use x;\\\nstruct S;\\"\\\n    b");\n}',
@@ -119,6 +120,7 @@ BAD = {
     "a foreign function": 'extern "C" {\n    fn read();\n}',
     "another file": "mod other;",
     "a macro": "    assert!(x);",
+    "a macro after a space": "    name !(x);",
     "print of another form": '    print!("x");',
     "print on another handle": '    print!(out; "x")?;',
     "another macro within print": '    print!(rt; "{}", format!("x"))?;',

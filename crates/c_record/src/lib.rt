@@ -10,8 +10,8 @@ ghost use Rattle.matrixbytes.specs.Matrices.{mask_bytes};
 ghost use Rattle.hostbytes.specs.Configurations.{configuration_bytes};
 
 use fields::CONFIGURATION_BYTES;
-use hostbytes::MASK_BYTES;
 use layout::{Drivers, Words};
+use matrixbytes::MASK_BYTES;
 
 #[unsafe(no_mangle)]
 pub extern "C" fn zk_raw_highest_adapter(words: &Words, drivers: &Drivers) -> u8

@@ -128,27 +128,20 @@ fn queues(
 }
 
 fn moved(rt: &impl Print, m: Moved) -> io::Result<()> {
-    named(rt, usize::from(u8::from(m)))
+    named(rt, movednames::word(m))
 }
 
 fn target(rt: &impl Print, d: Driver) -> io::Result<()> {
-    named(
-        rt,
-        match d {
-            Driver::Host => 2,
-            Driver::Passthrough => 3,
-            Driver::Unbound => 4,
-        },
-    )
+    match d {
+        Driver::Host => named(rt, b"host"),
+        Driver::Passthrough => named(rt, b"passthrough"),
+        Driver::Unbound => named(rt, b"none"),
+    }
 }
 
-// The first four in the order of `moved_number`.
-fn named(rt: &impl Print, k: usize) -> io::Result<()> {
+fn named(rt: &impl Print, word: &[u8]) -> io::Result<()> {
     print::text(rt, b": ")?;
-    print::text(
-        rt,
-        parts::part(b"idle released host passthrough none", b' ', k),
-    )?;
+    print::text(rt, word)?;
     end_line(rt)
 }
 

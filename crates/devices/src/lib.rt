@@ -40,7 +40,7 @@ pub fn close(words: &mut Words, id: Id) -> Answer
     Ok(())
 }
 
-// The slot of the device with an id, if it is open, or not, as wanted. An open one is refused as busy.
+// The slot of the device with an id, if it is open, or not, as wanted. Otherwise an open one is busy, and of another EINVAL is said.
 fn slot_if(words: &Words, id: Id, wanted: bool) -> Result<usize, Errno>
     ensures { result ≡ slot_if id wanted (devices words.entry) }
 {

@@ -9,7 +9,7 @@ ghost use Rattle.layout.specs.Lent.{state};
 ghost use Rattle.due.specs.Due.{Remains};
 
 use layout::{Drivers, Words};
-use mask::{Apid, Apqn};
+use mask::{Apid, Apqi, Apqn};
 use rules::Driver;
 use targetrow::TargetRow;
 
@@ -44,7 +44,10 @@ fn remaining_row(words: &Words, drivers: &Drivers, adapter: Apid) -> u32
     let row = TargetRow::of(words, adapter);
     (0..256usize)
         .map(|n| {
-            let queue = Apqn::new(adapter.0, n as u8);
+            let queue = Apqn {
+                adapter,
+                domain: Apqi(n as u8),
+            };
             due_by(drivers::driver(drivers, queue), row.target(queue.domain))
         })
         .sum()

@@ -12,11 +12,8 @@ ghost use Rattle.hostbytes.specs.Configurations.{type_bytes, configuration_bytes
 use fields::CONFIGURATION_BYTES;
 use layout::Words;
 use mask::Apid;
-use matrixbytes::MASKS_BYTES;
+use matrixbytes::{MASK_BYTES, MASKS_BYTES};
 use rules::Masks;
-
-// The bytes of a mask.
-pub const MASK_BYTES: usize = 32;
 
 pub fn apmask(words: &Words, out: &mut [u8; MASK_BYTES])
     ensures { out.new ≡ mask_bytes (host words.entry).apmask }

@@ -3,7 +3,7 @@
 // Rests on split.
 #![tactic(auto)]
 
-ghost use Rattle.std.specs.Prelude.{◌≡◌, [], ◌∷◌, drop, MatchOption};
+ghost use Rattle.std.specs.Prelude.{◌≡◌, ◌+◌, [], ◌∷◌, drop, length, MatchOption};
 ghost use Rattle.split.specs.Cut.{piece_from};
 ghost use Rattle.linereader.specs.Words.{left};
 
@@ -31,6 +31,7 @@ impl<'a> LineReader<'a> {
     pub fn next(&mut self) -> Option<&'a [u8]>
         ensures word { MatchOption result ((left self.old ≡ []) × (left self.new ≡ [])) (λ w. left self.old ≡ w.now ∷ left self.new) }
         ensures line { self.new.line ≡ self.old.line }
+        ensures place { MatchOption result (self.new.at ≡ self.old.at) (λ w. self.new.at ≡ self.old.at + length w.now + 1) }
     {
         if self.line.len() < self.at {
             return None;
@@ -44,9 +45,6 @@ impl<'a> LineReader<'a> {
     pub fn rest(&self) -> &'a [u8]
         ensures { result.now ≡ drop self.now.at self.now.line.now }
     {
-        match self.line.get(self.at..) {
-            Some(rest) => rest,
-            None => &[],
-        }
+        self.line.get(self.at..).unwrap_or(&[])
     }
 }

@@ -6,8 +6,8 @@
 ghost use Rattle.std.specs.Prelude.{ℕ, ◌-◌, ◌%◌, ◌^◌, ◌≡◌};
 ghost use Rattle.mask.specs.Bits.{bits, no_bits, all_bits, included, excluded};
 
-// An adapter number. It and a domain number are kinds of their own: where a function takes the one, the other is no number for it.
-// A mask's methods take either, as a mask may be of adapters or of domains.
+// An adapter number. It is a kind of its own, as a domain number is: a function that takes the one cannot be given the other. What is
+// asked of a mask takes either, since a mask may be of adapters or of domains.
 #[derive(Clone, Copy, PartialEq, Eq)]
 pub struct Apid(pub u8);
 

@@ -10,7 +10,7 @@ ghost use Rattle.matrix.specs.Row.{missing, held_back, held_at};
 ghost use Rattle.matrix.specs.HasMasks.{HasMasks};
 
 use layout::{Drivers, Words};
-use mask::{Apid, Apqn, Mask};
+use mask::{Apid, Apqi, Apqn, Mask};
 use rules::{Driver, Kind, Masks, Matrix};
 
 // A matrix of the device at a slot: nothing past the last slot.
@@ -63,7 +63,13 @@ fn kept_adapter(drivers: &Drivers, adapter: Apid, mask: Mask, domains: Mask) -> 
 fn row_passed(drivers: &Drivers, adapter: Apid, domains: Mask) -> bool
     ensures { result ≡ not (held_back drivers.now (bits domains) adapter.0) }
 {
-    !(0..256usize).any(|n| missing(drivers, domains, Apqn::new(adapter.0, n as u8)))
+    !(0..256usize).any(|n| {
+        let queue = Apqn {
+            adapter,
+            domain: Apqi(n as u8),
+        };
+        missing(drivers, domains, queue)
+    })
 }
 
 // Whether a domain is there, and its queue is not bound to passthrough.

@@ -15,7 +15,7 @@ use mask::Mask;
 use rules::{Id, Masks, Matrix};
 
 // The bytes of a mask.
-const MASK_BYTES: usize = 32;
+pub const MASK_BYTES: usize = 32;
 
 // The bytes of three masks.
 pub const MASKS_BYTES: usize = 3 * MASK_BYTES;
