@@ -1,6 +1,6 @@
 // How far queues are from their targets: the moves that are due of one, and the moves remaining over all.
 //
-// Rests on mask, rules, layout, drivers and targetrow.
+// Rests on mask, rules, layout, drivers, targetrow and ranges.
 #![tactic(auto)]
 
 ghost use Rattle.std.specs.Prelude.{◌≡◌, ◌*◌};
@@ -42,11 +42,11 @@ fn remaining_row(words: &Words, drivers: &Drivers, adapter: Apid) -> u32
     ensures { result ≡ sum_from 256 (adapter.0 * 256) (due_at (state words.entry drivers.entry)) }
 {
     let row = TargetRow::of(words, adapter);
-    (0..256usize)
+    (0..=255u8)
         .map(|n| {
             let queue = Apqn {
                 adapter,
-                domain: Apqi(n as u8),
+                domain: Apqi(n),
             };
             due_by(drivers::driver(drivers, queue), row.target(queue.domain))
         })

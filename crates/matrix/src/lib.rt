@@ -1,6 +1,6 @@
 // The matrices of the device at a slot: what is assigned, and what its guest gets.
 //
-// Rests on mask, masks, rules, layout, record, drivers and controls.
+// Rests on mask, masks, rules, layout, record, drivers, controls and ranges.
 #![tactic(auto)]
 
 ghost use Rattle.std.specs.Prelude.{◌≡◌, not, ◌&&◌};
@@ -63,10 +63,10 @@ fn kept_adapter(drivers: &Drivers, adapter: Apid, mask: Mask, domains: Mask) -> 
 fn row_passed(drivers: &Drivers, adapter: Apid, domains: Mask) -> bool
     ensures { result ≡ not (held_back drivers.now (bits domains) adapter.0) }
 {
-    !(0..256usize).any(|n| {
+    !(0..=255u8).any(|n| {
         let queue = Apqn {
             adapter,
-            domain: Apqi(n as u8),
+            domain: Apqi(n),
         };
         missing(drivers, domains, queue)
     })

@@ -4,12 +4,13 @@ use native.Mathlib.Omega.{arith}
 use mathlib.Core.Path.{refl, ◌∙◌}
 use lib.ListN.{get_or}
 use Rattle.std.proofs.Common.{rules}
-use Rattle.std.proofs.lemmas.Iterator.{YieldsList-from_map, YieldsList-from_range}
+use Rattle.std.proofs.lemmas.Iterator.{YieldsList-from_map}
 use Rattle.std.proofs.lemmas.Iterator.Consumers.{sum_from_yields_List, fits_from_yields_list}
 use Rattle.rules.specs.Queues.{due}
 use Rattle.layout.specs.Layout.{driver_of}
 use Rattle.targetrow.specs.TargetRows.{row_target}
 use Rattle.due.proofs.Laws.{row_sum, row_fits}
+use Rattle.ranges.proofs.Laws.{inclusive_yields}
 use Rattle.due.proofs.remaining_row.Goals as goal
 
 pub sum-requires-clause-fits : goal.sum-requires-clause-fits
@@ -17,7 +18,7 @@ sum-requires-clause-fits c =
     let a = c.args in
     let moves : ℕ → ℕ = λ n. due (driver_of (get_or a.drivers.now (a.adapter.0 * 256 + n) 0)) (row_target c.of-row.result n) in
     fits_from_yields_list c.map.result _
-    (YieldsList-from_map _ moves (YieldsList-from_range 0 256 256 c.map.ensures.source refl) c.map.ensures.closure (λ x r q k. (search rules, search rules)))
+    (YieldsList-from_map _ moves (inclusive_yields 0 255 256 c.map.ensures.source c.new.ensures.start c.new.ensures.end c.new.ensures.exhausted refl) c.map.ensures.closure (λ x r q k. (search rules, search rules)))
     (row_fits a.words.now a.drivers.now a.adapter.0 c.of-row.result c.of-row.ensures 256 (omega arith))
 
 pub returns : goal.returns
@@ -25,5 +26,5 @@ returns c =
     let a = c.args in
     let moves : ℕ → ℕ = λ n. due (driver_of (get_or a.drivers.now (a.adapter.0 * 256 + n) 0)) (row_target c.of-row.result n) in
     sum_from_yields_List c.map.result _ c.sum.ensures.ran
-    (YieldsList-from_map _ moves (YieldsList-from_range 0 256 256 c.map.ensures.source refl) c.map.ensures.closure (λ x r q k. (search rules, search rules)))
+    (YieldsList-from_map _ moves (inclusive_yields 0 255 256 c.map.ensures.source c.new.ensures.start c.new.ensures.end c.new.ensures.exhausted refl) c.map.ensures.closure (λ x r q k. (search rules, search rules)))
     ∙ row_sum a.words.now a.drivers.now a.adapter.0 c.of-row.result c.of-row.ensures 256 (omega arith)
