@@ -54,6 +54,7 @@ pub fn size_at(bytes: &[u8], at: usize) -> Option<usize>
     if left.len() < HEADER {
         return None;
     }
-    let size = HEADER + usize::from(left[LENGTH]) * 256 + usize::from(left[LENGTH + 1]);
+    let length = u16::from_be_bytes([left[LENGTH], left[LENGTH + 1]]);
+    let size = HEADER + usize::from(length);
     if left.len() < size { None } else { Some(size) }
 }
