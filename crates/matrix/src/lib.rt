@@ -1,6 +1,6 @@
 // The matrices of the device at a slot: what is assigned, and what its guest gets.
 //
-// Rests on mask, masks, rules, layout, record, drivers, controls and ranges.
+// Rests on mask, masks, rules, layout, record, drivers and controls.
 #![tactic(auto)]
 
 ghost use Rattle.std.specs.Prelude.{◌≡◌, not, ◌&&◌};
@@ -63,13 +63,16 @@ fn kept_adapter(drivers: &Drivers, adapter: Apid, mask: Mask, domains: Mask) -> 
 fn row_passed(drivers: &Drivers, adapter: Apid, domains: Mask) -> bool
     ensures { result ≡ not (held_back drivers.now (bits domains) adapter.0) }
 {
-    !(0..=255u8).any(|n| {
+    for n in 0..256usize {
         let queue = Apqn {
             adapter,
-            domain: Apqi(n),
+            domain: Apqi(n as u8),
         };
-        missing(drivers, domains, queue)
-    })
+        if missing(drivers, domains, queue) {
+            return false;
+        }
+    }
+    true
 }
 
 // Whether a domain is there, and its queue is not bound to passthrough.

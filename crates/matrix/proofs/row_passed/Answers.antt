@@ -1,19 +1,25 @@
 -- `row_passed` meets its contract.
-use Rattle.std.proofs.Common.{rules, refl, ap, not, ◌≡◌, true, false}
-use Rattle.std.proofs.lemmas.Iterator.{cases_from_any}
-use Rattle.mask.specs.Bits.{Bits, bits}
-use Rattle.rules.proofs.First.{some_of_range}
+use native.Mathlib.Omega.{arith}
+use mathlib.Core.Path.{sym, ap, ◌∙◌}
+use mathlib.Core.Bool.{not}
+use borrow.Author.Count.{below_more}
+use Rattle.mask.specs.Bits.{bits}
+use Rattle.mask.proofs.Laws.{some_intro, none_some}
 use Rattle.matrix.specs.Row.{missing, held_back}
-use Rattle.ranges.proofs.Laws.{inclusive_yields}
 use Rattle.matrix.proofs.row_passed.Goals as goal
+
+pub returns-then-missing : goal.returns-then-missing
+unfolding held_back
+returns-then-missing c =
+    let a = c.args in
+    ap not (sym (some_intro 256 (missing a.drivers.now (bits a.domains) a.adapter.0) c.loop-n.n (omega arith)
+    (sym c.missing.ensures ∙ c.if-missing.true)))
+
+pub loop-n-preserved : goal.loop-n-preserved
+loop-n-preserved c = below_more _ _ c.loop-n.invariant (sym c.missing.ensures ∙ c.if-missing.false)
 
 pub returns : goal.returns
 unfolding held_back
 returns c =
     let a = c.args in
-    let p : Bits = missing a.drivers.now (bits a.domains) a.adapter.0 in
-    ap not
-    (some_of_range 256 p
-    (cases_from_any _ _ _ (λ k. p k ≡ true) (λ k. p k ≡ false) c.any.ensures.ran
-    (inclusive_yields 0 255 256 refl c.new.ensures.start c.new.ensures.end c.new.ensures.exhausted refl)
-    (λ x q h. search rules) (λ x q h. (search rules, search rules))))
+    ap not (sym (none_some 256 (missing a.drivers.now (bits a.domains) a.adapter.0) (λ k h. c.loop-n.invariant k (omega arith))))
