@@ -70,6 +70,8 @@ $(LIB): $(SOURCES)
 	    echo "$$c: compiled"; \
 	done
 	@ar rcs $(LIB) target/lib/objects/*.o
+	@needs=$$(nm -u $(LIB) | awk 'NF == 2 {print $$2}' | sort -u | grep -vx 'memcpy\|memset' | xargs); \
+	    [ -z "$$needs" ] || { rm $(LIB); echo "$(LIB) needs $$needs: README says memcpy and memset alone"; exit 1; }
 	@echo "$(LIB): $$(nm -g $(LIB) | grep -c ' T zk_raw_') functions"
 
 # What is installed: the archive above, or one that `make s390x` made.

@@ -1,9 +1,9 @@
 // The answer line to a line of the console.
 //
-// Rests on errno, decimal, rules and movednames.
+// Rests on errno, copy, decimal, rules and movednames.
 #![tactic(auto)]
 
-ghost use Rattle.std.specs.Prelude.{◌++◌, ◌+◌, ◌≤◌, ◌<◌, length};
+ghost use Rattle.std.specs.Prelude.{◌≡◌, ◌++◌, ◌+◌, ◌≤◌, ◌<◌, length};
 ghost use Rattle.errno.specs.Errno.{number_of};
 ghost use Rattle.answerline.specs.Answers.{ended, command_line, move_line, sweep_line, said_line, longest, Puts};
 ghost use Rattle.answerline.specs.Written.{Writes};
@@ -72,7 +72,7 @@ fn line(out: &mut [u8], first: &[u8], second: &[u8]) -> usize
     ensures { Writes (ended (first.now ++ second.now)) out.entry out.exit result }
 {
     let n = first.len();
-    out[..n].copy_from_slice(first);
+    fill(&mut out[..n], first);
     n + last(&mut out[n..], second)
 }
 
@@ -82,7 +82,15 @@ fn last(out: &mut [u8], text: &[u8]) -> usize
     ensures { Writes (ended text.now) out.entry out.exit result }
 {
     let n = text.len();
-    out[..n].copy_from_slice(text);
+    fill(&mut out[..n], text);
     out[n] = b'\n';
     n + 1
+}
+
+// Copies bytes, one for each place, by `copy::copy`: `copy_from_slice` would need memmove here.
+fn fill(room: &mut [u8], bytes: &[u8])
+    requires { length room.old ≡ length bytes.now }
+    ensures { room.new ≡ bytes.now }
+{
+    copy::copy(room, 0, bytes);
 }
