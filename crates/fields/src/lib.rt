@@ -59,7 +59,7 @@ fn word_at(bytes: &[u8], at: usize) -> u64
     requires { at ≤ 8 }
     ensures { result ≡ word_at bytes.now at }
 {
-    u64::from_be_bytes(bytes_at(bytes, at))
+    u64::from(half_at(bytes, at)) * 4294967296 + u64::from(half_at(bytes, at + 4))
 }
 
 fn half_at(bytes: &[u8], at: usize) -> u32
