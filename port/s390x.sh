@@ -246,8 +246,8 @@ run_tests() {
         program "$name"
     done
     say "controls: a copy with a line changed, which a check must stop"
-    control "an index" number.rs 'while i < s.len() {' 'while i <= s.len() {'
-    control "an overflow" digits.rs "return c - b'0';" "return c - b'9';"
+    control "an index" copy.rs '*to = bytes[i];' '*to = bytes[i + 1];'
+    control "an overflow" digits.rs "c - b'0'" "c - b'9'"
     say "the outside test, four at a time: some seven minutes for a million steps"
     outside
     if [ "$STEPS" -ge 1000000 ]; then

@@ -3,7 +3,9 @@
 // Rests on mask, rules, fields, layout, model, encoding, host, configure, bind, devices, create, assign, sweep and calls.
 #![tactic(auto)]
 
+ghost use Rattle.fields.specs.Fields.{configuration_of};
 ghost use Rattle.layout.specs.Carried.{memory};
+ghost use Rattle.model.specs.Steps.{configure};
 ghost use Rattle.encoding.specs.Encoding.{move, sweep};
 ghost use Rattle.encoding.specs.Meant.{meant};
 ghost use Rattle.request.specs.Requests.{Stepped, Obeyed};
@@ -26,10 +28,16 @@ pub fn command(words: &mut Words, drivers: &mut Drivers, command: Command) -> An
         Command::Unassign(kind, id, text) => assign::unassign(words, kind, id, text),
         Command::SetApmask(text) => host::set_apmask(words, text),
         Command::SetAqmask(text) => host::set_aqmask(words, text),
-        Command::Configure(bytes) => {
-            configure::configure(words, drivers, fields::configuration_of(bytes))
-        }
+        Command::Configure(bytes) => configured(words, drivers, bytes),
     }
+}
+
+// Configures by the bytes of a configuration. On its own, since the kit's compiler clears the room for what was read where the function
+// that reads begins, and `command` is every command's.
+fn configured(words: &mut Words, drivers: &mut Drivers, bytes: &[u8]) -> Answer
+    ensures { Obeyed (configure (configuration_of bytes.now)) words.entry words.exit drivers.entry drivers.exit result }
+{
+    configure::configure(words, drivers, fields::configuration_of(bytes))
 }
 
 // Makes a move, and gives its answer as a byte.

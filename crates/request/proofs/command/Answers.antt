@@ -1,10 +1,10 @@
 -- `command` meets its contract: each command is carried out by its function, which is a call.
 use Prim.Native.Nat.{ℕ}
 use mathlib.Core.List.{List}
-use mathlib.Core.Path.{◌≡◌, refl, sym, ap, ◌∙◌}
+use mathlib.Core.Path.{◌≡◌, refl, ap}
 use borrow.Author.Rules.{rules}
-use Rattle.model.specs.Steps.{Command, assign, unassign, set_apmask, set_aqmask, configure, rule}
-use Rattle.calls.specs.Calls.{effect, creates, removes, opens, closes, assigns, unassigns, sets_apmask, sets_aqmask, configures}
+use Rattle.model.specs.Steps.{Command, assign, unassign, set_apmask, set_aqmask, rule}
+use Rattle.calls.specs.Calls.{effect, creates, removes, opens, closes, assigns, unassigns, sets_apmask, sets_aqmask}
 use Rattle.encoding.specs.Encoding.{command}
 use Rattle.encoding.specs.Meant.{meant}
 use Rattle.request.specs.Requests.{Stepped}
@@ -15,7 +15,7 @@ use Rattle.rules.specs.Commands as Commands
 use Rattle.layout.specs.Carried.{CarriedWords, memory}
 use Rattle.assign.specs.Numbers.{Assigning, unassigned}
 use Rattle.host.specs.Masks.{with_apmask, with_aqmask}
-use Rattle.request.proofs.Laws.{obeyed}
+use Rattle.request.proofs.Laws.{as_asked, obeyed}
 use Rattle.request.proofs.command.Goals as goal
 
 pub returns-in-Create : goal.returns-in-Create
@@ -91,8 +91,5 @@ returns-in-SetAqmask c =
     aqmask_as w.text.now c.args.words.now _ c.args.drivers.now _ (ap meant w.is) (search rules)
 
 pub returns-in-Configure : goal.returns-in-Configure
-unfolding meant rule effect
-returns-in-Configure c =
-    let g = c.configuration_of in
-    obeyed (ap meant c.in-Configure.is ∙ ap configure (sym g.ensures)) c.configure.ensures
-    (configures g.result c.configure.result c.configure.ensures)
+unfolding meant
+returns-in-Configure c = as_asked (ap command (ap meant c.in-Configure.is)) c.configured.ensures
