@@ -246,7 +246,7 @@ run_tests() {
         program "$name"
     done
     say "controls: a copy with a line changed, which a check must stop"
-    control "an index" copy.rs '*to = bytes[i];' '*to = bytes[i + 1];'
+    control "an index" number.rs "if s.first() == Some(&b'0') {" "if s[1] == b'0' {"
     control "an overflow" digits.rs "c - b'0'" "c - b'9'"
     say "the outside test, four at a time: some seven minutes for a million steps"
     outside

@@ -49,8 +49,8 @@ USE = re.compile(r"^use (\w+)::(?:(\w+)|\{([^{}]*)\});", re.M)
 # the lines of a string after its first: one that goes on, and the last, after whose quote only these signs may come
 STRING_MORE = re.compile(r'(\\.|[^"\\])*\\')
 STRING_END = re.compile(r'(\\.|[^"\\])*"[),;]*')
-# the one macro that is copied: port/kit.rs has it
-PRINT = re.compile(r"\bprint!\(rt; (?=\")")
+# the two macros that are copied: port/kit.rs has print, and Rust has matches, with the same meaning
+MACRO = re.compile(r"\bprint!\(rt; (?=\")|\bmatches!\((?=\w+, )")
 # names of the kit's prelude for which something stands there
 PRELUDE = re.compile(r"\b(HostRuntime|Input|Print)\b")
 # what a line of code that is copied must not have, beside what is not ASCII
@@ -223,7 +223,7 @@ def translate(path, lines, counts):
             counts["lines copied"] += 1
         if not is_comment(line):
             in_string = string_open(line)
-            if in_string is None or not line.isascii() or STRANGE.search(PRINT.sub("", line)):
+            if in_string is None or not line.isascii() or STRANGE.search(MACRO.sub("", line)):
                 raise strange("a form that is not known")
             # a call can end as a head does, but is not followed by a contract or a body
             end = HEAD_END.fullmatch(line)

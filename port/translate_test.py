@@ -51,6 +51,7 @@ GOOD = {
     ),
     "a test that begins a line": ("    !(x)", "    !(x)"),
     "print": ('    print!(rt; "{x:016x}")?;', '    print!(rt; "{x:016x}")?;'),
+    "matches": ("    if matches!(c, b'0'..=b'9') {", "    if matches!(c, b'0'..=b'9') {"),
     "a string over lines": (
         'fn f() {\n    g(b\'"\', b"x", b"a\\\n        ghost use x;\\\nstruct S;\\"\\\n    b");\n}',
         'fn f() {\n    g(b\'"\', b"x", b"a\\\n        ghost use x;\\\nstruct S;\\"\\\n    b");\n}',
@@ -125,6 +126,9 @@ BAD = {
     "print on another handle": '    print!(out; "x")?;',
     "another macro within print": '    print!(rt; "{}", format!("x"))?;',
     "a macro that ends as print": '    eprint!(rt; "x")?;',
+    "matches on more than a name": "    if matches!(f!(x), 1) {",
+    "another macro within matches": "    if matches!(x, f!(1)) {",
+    "a macro that ends as matches": "    if unmatches!(x, 1) {",
     "no_mangle elsewhere": "#[unsafe(no_mangle)]\npub fn f() {\n}",
     "no_mangle of another form": '#[no_mangle]\npub extern "C" fn f(x: u8) -> u8\n{\n}',
     "an export without no_mangle": 'pub extern "C" fn f(x: u8) -> u8\n{\n}',
