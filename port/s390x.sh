@@ -140,13 +140,24 @@ program() {
     done
 }
 
+# What is done with each control: its name, a file, a text in it, and another one in its place by which a check fails. Without
+# checks neither stops the C example.
+controls() {
+    "$1" "an index" number.rs "if s.first() == Some(&b'0') {" "if s[1] == b'0' {"
+    "$1" "an overflow" digits.rs "c - b'0'" "c - b'9'"
+}
+
+# Whether the text of a control is there once: seen first, since a change of a crate can take it away.
+stands() {
+    [ "$(grep -cF "$3" "$work/source/library/$2")" = 1 ] || fail "control, $1: no such line in $2"
+}
+
 # A copy of the source with one line changed so that a check must fail: what is seen if a proof is wrong. The C example over
 # its checked archive, and the outside test over its plain one, must be stopped by the trap.
 control() {
     local name=$1 file=$2 from=$3 to=$4 copy=$work/source/control out=$tests/control text
     rm -rf "$copy"
     cp -r "$work/source/library" "$copy"
-    [ "$(grep -cF "$from" "$copy/$file")" = 1 ] || fail "control, $name: no such line in $file"
     text=$(<"$copy/$file")
     echo "${text/"$from"/"$to"}" >"$copy/$file"
     quietly archive "$copy" "$out" checked || fail "control, $name: not built"
@@ -220,6 +231,7 @@ run_tests() {
     port/translate.py "$work/source/library" | tee -a "$tests/report" || fail "the library is not translated"
     port/translate.py "$work/source/again" >"$work/log" || fail "the library is not translated again"
     diff -r "$work/source/library" "$work/source/again" || fail "translated once more, the library is another"
+    controls stands
     for file in crates/*/src/main.rt; do
         name=$(basename "$(dirname "$(dirname "$file")")")
         programs+=("$name")
@@ -246,8 +258,7 @@ run_tests() {
         program "$name"
     done
     say "controls: a copy with a line changed, which a check must stop"
-    control "an index" number.rs "if s.first() == Some(&b'0') {" "if s[1] == b'0' {"
-    control "an overflow" digits.rs "c - b'0'" "c - b'9'"
+    controls control
     say "the outside test, four at a time: some seven minutes for a million steps"
     outside
     if [ "$STEPS" -ge 1000000 ]; then

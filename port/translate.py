@@ -19,10 +19,10 @@ The code of a Rattle function is a Rust function's code. So a line is copied as 
 A line `use crate::{...};` goes before the first, with the crates that are named, and `use crate::kit::*;` where a name of the kit's
 prelude is for which something stands in port/kit.rs: in programs alone.
 
-A line of code of another form stops the translation where it has a word or a sign of a specification, or something else
-that is on the list STRANGE, or a comment or a string that runs over its end. Only a string whose line ends in a backslash may go
-on; the lines within it, and comments, are copied whatever they have. What is left is copied too, and rustc judges it. So
-nothing is missing from the output but lines of the first eight forms.
+A line of code of another form stops the translation where it has a word or a sign of a specification, a macro that is not
+print! or matches!, or something else that is on the list STRANGE, or a comment or a string that runs over its end. Only a
+string whose line ends in a backslash may go on; the lines within it, and comments, are copied whatever they have. What is
+left is copied too, and rustc judges it. So nothing is missing from the output but lines of the first eight forms.
 """
 
 import collections
@@ -50,13 +50,13 @@ USE = re.compile(r"^use (\w+)::(?:(\w+)|\{([^{}]*)\});", re.M)
 STRING_MORE = re.compile(r'(\\.|[^"\\])*\\')
 STRING_END = re.compile(r'(\\.|[^"\\])*"[),;]*')
 # the two macros that are copied: port/kit.rs has print, and Rust has matches, with the same meaning
-MACRO = re.compile(r"\bprint!\(rt; (?=\")|\bmatches!\((?=\w+, )")
+MACRO = re.compile(r"(?<![\w:#])(print!\(rt; (?=\")|matches!\((?=\w+, ))")
 # names of the kit's prelude for which something stands there
 PRELUDE = re.compile(r"\b(HostRuntime|Input|Print)\b")
 # what a line of code that is copied must not have, beside what is not ASCII
 STRANGE = re.compile(
     r"\b(ghost|requires|ensures|invariant|decreases|assert\w*|assume\w*|unsafe|extern|(?<!')static|mod)\b"
-    r'|#!?\[|\w\s*!\(|\bb?r#*"'
+    r'|#!?\[|\w\s*!\s*[(\[{]|\bmacro_rules\b|\bb?r#*"'
 )
 
 LIBRARY_HEAD = """\

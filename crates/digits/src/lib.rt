@@ -24,8 +24,8 @@ pub fn starts_hex(s: &[u8]) -> bool
 pub fn digit_of(c: u8) -> Option<u8>
     ensures { result ≡ digit_found c }
 {
-    // Range by range: of a `match` with all three the kit's compiler asks about both ends of each. And one test of the value at the end, and
-    // no `Some` in each branch: that compiler then tests a digit once.
+    // Range by range: of one `match` with all three the kit's compiler asks about both ends of two of them. And one test of the
+    // value at the end, and no `Some` in each branch: that compiler then tests a digit once.
     let value = if matches!(c, b'0'..=b'9') {
         c - b'0'
     } else if matches!(c, b'a'..=b'f') {
