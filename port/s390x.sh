@@ -259,7 +259,7 @@ run_tests() {
     done
     say "controls: a copy with a line changed, which a check must stop"
     controls control
-    say "the outside test, four at a time: some seven minutes for a million steps"
+    say "the outside test, four at a time: seven to twenty-five minutes for a million steps"
     outside
     if [ "$STEPS" -ge 1000000 ]; then
         for build in "${builds[@]}"; do
